@@ -1,0 +1,44 @@
+-- The machine's words against the digits of specs/Set.antt: a shift, `&` and `|` with one digit.
+use mathlib.Core.Path.{_≡_, refl, sym, ap, _∙_}
+use Prim.Native.Nat.{ℕ, zero, suc, _+_, _-_, _*_, _/_, _%_, _^_, _≤_, _<_, min, max}
+use native.Mathlib.Nat.{pow-suc, mod-eq-of-lt, one-mul, div-one, div-div-eq-div-mul, mul-comm}
+use native.Mathlib.Omega.{arith}
+use lib.Pow.{pow-pos, pow-lt}
+use lib.Bits.{bitAnd, bitOr, and-step, or-step, or-zero-r, and-mask}
+use Rattle.bitset.specs.Set.{bit, put}
+
+-- one digit, as a shift gives it
+pub shifted : (k : ℕ) → k < 64 → 1 * 2 ^ k % 2 ^ 64 ≡ 2 ^ k
+shifted k h = rw one-mul (mod-eq-of-lt (pow-lt {i = k} {j = 64} h))
+
+pub bit-shift : (n k : ℕ) → n / 2 ^ k % 2 ≡ bit n k
+unfolding bit
+bit-shift n zero = rw div-one
+bit-shift n (suc k) =
+    ap (λ (x : ℕ). x % 2) (ap (λ (x : ℕ). n / x) (pow-suc 2 k ∙ mul-comm (2 ^ k) 2) ∙ sym (div-div-eq-div-mul n 2 (2 ^ k)))
+    ∙ bit-shift (n / 2) k
+
+pub or-digit : (n k : ℕ) → bitOr n (2 ^ k) ≡ put n k 1
+unfolding put
+or-digit n zero = omega (arith, or-step n 1, or-zero-r (n / 2))
+or-digit n (suc k) =
+    let e : bitOr (n / 2) (2 ^ suc k / 2) ≡ put (n / 2) k 1
+    = ap (λ (x : ℕ). bitOr (n / 2) x) (omega (arith, pow-suc 2 k)) ∙ or-digit (n / 2) k in
+    omega (arith, or-step n (2 ^ suc k), pow-suc 2 k)
+
+pub and-digit : (w n k : ℕ) → k < w → n < 2 ^ w → bitAnd n (2 ^ w - 1 - 2 ^ k) ≡ put n k 0
+unfolding put
+and-digit zero n k l h = absurd (omega arith)
+and-digit (suc w) n zero l h =
+    let m : ℕ = 2 ^ suc w - 1 - 1 in
+    let e : bitAnd (n / 2) (m / 2) ≡ n / 2
+    = ap (λ (x : ℕ). bitAnd (n / 2) x) (omega (arith, pow-suc 2 w, pow-pos w)) ∙ and-mask (n / 2) w
+    ∙ mod-eq-of-lt (omega (arith, pow-suc 2 w)) in
+    omega (arith, and-step n m, pow-suc 2 w, pow-pos w)
+and-digit (suc w) n (suc k) l h =
+    let m : ℕ = 2 ^ suc w - 1 - 2 ^ suc k in
+    let below : 2 ^ k < 2 ^ w = pow-lt (omega arith) in
+    let e : bitAnd (n / 2) (m / 2) ≡ put (n / 2) k 0
+    = ap (λ (x : ℕ). bitAnd (n / 2) x) (omega (arith, pow-suc 2 w, pow-suc 2 k))
+    ∙ and-digit w (n / 2) k (omega arith) (omega (arith, pow-suc 2 w)) in
+    omega (arith, and-step n m, pow-suc 2 w, pow-suc 2 k)

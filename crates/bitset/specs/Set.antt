@@ -1,0 +1,41 @@
+-- Sets of tasks 0 to 63, as the binary digits of a number: task k is in the set exactly if digit k is 1.
+-- Document 01: "The list is 64 bits, and the lowest set bit names the task taken."
+use Prim.Native.Nat.{ℕ, zero, suc, _+_, _-_, _*_, _/_, _%_, _^_, min}
+use mathlib.Core.Bool.{Bool}
+use lib.Dec.{eqb, ltb}
+use lib.Count.{ones, trailingZeros}
+use Rattle.bitset.specs.Choice.{pick}
+
+-- the digit of n at place k, 0 or 1
+unfoldable pub bit : ℕ → ℕ → ℕ
+bit n zero = n % 2
+bit n (suc k) = bit (n / 2) k
+
+-- n with the digit b at place k
+unfoldable pub put : ℕ → ℕ → ℕ → ℕ
+put n zero b = n / 2 * 2 + b
+put n (suc k) b = put (n / 2) k b * 2 + n % 2
+
+-- whether task k is in the set
+abbrev pub memberOf : ℕ → ℕ → Bool
+memberOf list k = eqb (bit list k) 1
+
+-- the least task of the set, which its trailing zeros count; 64 for the empty set
+abbrev pub leastOf : ℕ → ℕ
+leastOf list = trailingZeros 64 list
+
+-- the set with task k taken off
+abbrev pub withoutOf : ℕ → ℕ → ℕ
+withoutOf list k = put list k 0
+
+-- the set with task k put on; only the tasks 0 to 63 can be
+abbrev pub withOf : ℕ → ℕ → ℕ
+withOf list k = pick (ltb k 64) (put list k 1) list
+
+-- the first n tasks, 64 at most
+abbrev pub allOf : ℕ → ℕ
+allOf n = 2 ^ min n 64 - 1
+
+-- how many tasks are in the set
+abbrev pub sizeOf : ℕ → ℕ
+sizeOf list = ones list

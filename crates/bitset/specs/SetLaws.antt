@@ -1,0 +1,180 @@
+-- Laws of the sets of `Set.antt` and of the number of tasks: of single digits first, then those that the crates above cite.
+use mathlib.Core.Path.{_≡_, refl, sym, ap, _∙_, subst}
+use mathlib.Core.Logic.{_≢_, _⊎_, inl, inr}
+use mathlib.Core.Bool.{Bool, true, false, and-eq-true-iff}
+use Prim.Native.Nat.{ℕ, zero, suc, _+_, _-_, _*_, _/_, _%_, _^_, _≤_, _<_, min}
+use native.Mathlib.Nat.{pow-suc, lt-of-not-le}
+use native.Mathlib.Decide.{decLt}
+use native.Mathlib.Omega.{arith}
+use lib.Dec.{ltb, leb, leb·suc-suc}
+use lib.Pow.{pow-pos, pow-mono}
+use lib.Count.{ones, trailingZeros, under, ones-step, ones-ones, trailing-le}
+use borrow.Author.Tests.{lt-ltb, le-ltb, ltb-true, leb-true}
+use Rattle.bitset.specs.Choice.{pick}
+use Rattle.bitset.specs.Tasks.{isCount}
+use Rattle.bitset.specs.Set.{bit, put, leastOf, withoutOf, withOf, allOf, sizeOf}
+
+-- ---- the number of tasks
+
+pub is-count : (n : ℕ) → isCount n ≡ true → (1 ≤ n) × (n ≤ 64)
+is-count n e = let both = and-eq-true-iff (leb 1 n) (leb n 64) .0 e in (leb-true 1 n (both .0), leb-true n 64 (both .1))
+
+-- ---- a digit
+
+pub bit-le : (n k : ℕ) → bit n k ≤ 1
+unfolding bit
+bit-le n zero = omega arith
+bit-le n (suc k) = bit-le (n / 2) k
+
+pub bit-zero : (k : ℕ) → bit 0 k ≡ 0
+unfolding bit
+bit-zero zero = refl
+bit-zero (suc k) = bit-zero k
+
+-- a number has no digit past its length
+pub bit-high : (w n k : ℕ) → n < 2 ^ w → w ≤ k → bit n k ≡ 0
+unfolding bit
+bit-high zero n k h l = ap (λ (x : ℕ). bit x k) (omega arith) ∙ bit-zero k
+bit-high (suc w) n zero h l = omega arith
+bit-high (suc w) n (suc k) h l = bit-high w (n / 2) k (omega (arith, pow-suc 2 w)) (omega arith)
+
+-- a number is its digits
+pub bit-ext : (w n m : ℕ) → n < 2 ^ w → m < 2 ^ w → ((k : ℕ) → k < w → bit n k ≡ bit m k) → n ≡ m
+unfolding bit
+bit-ext zero n m hn hm e = omega arith
+bit-ext (suc w) n m hn hm e =
+    omega (
+      arith,
+      e 0 (omega arith),
+      bit-ext w (n / 2) (m / 2) (omega (arith, pow-suc 2 w)) (omega (arith, pow-suc 2 w)) (λ k h. e (suc k) (omega arith)),
+    )
+
+pub put-same : (n k b : ℕ) → b ≤ 1 → bit (put n k b) k ≡ b
+unfolding bit put
+put-same n zero b h = omega arith
+put-same n (suc k) b h = ap (λ (x : ℕ). bit x k) (omega arith) ∙ put-same (n / 2) k b h
+
+pub put-other : (n k b j : ℕ) → b ≤ 1 → j ≢ k → bit (put n k b) j ≡ bit n j
+unfolding bit put
+put-other n zero b zero h ne = absurd (ne refl)
+put-other n zero b (suc j) h ne = ap (λ (x : ℕ). bit x j) (omega arith)
+put-other n (suc k) b zero h ne = omega arith
+put-other n (suc k) b (suc j) h ne =
+    ap (λ (x : ℕ). bit x j) (omega arith) ∙ put-other (n / 2) k b j h (λ e. ne (ap suc e))
+
+pub put-id : (n k : ℕ) → put n k (bit n k) ≡ n
+unfolding bit put
+put-id n zero = omega arith
+put-id n (suc k) = omega (arith, put-id (n / 2) k)
+
+-- the law of sizes, for members and others at once
+pub put-ones : (n k b : ℕ) → b ≤ 1 → ones (put n k b) + bit n k ≡ ones n + b
+unfolding bit put
+put-ones n zero b h =
+    let m : ℕ = n / 2 * 2 + b in
+    let e : ones (m / 2) ≡ ones (n / 2) = ap ones (omega arith) in
+    omega (arith, ones-step m, ones-step n)
+put-ones n (suc k) b h =
+    let m : ℕ = put (n / 2) k b * 2 + n % 2 in
+    let e : ones (m / 2) ≡ ones (put (n / 2) k b) = ap ones (omega arith) in
+    omega (arith, ones-step m, ones-step n, put-ones (n / 2) k b h)
+
+pub put-lt : (w n k b : ℕ) → b ≤ 1 → k < w → n < 2 ^ w → put n k b < 2 ^ w
+unfolding put
+put-lt zero n k b h l hn = absurd (omega arith)
+put-lt (suc w) n zero b h l hn = omega (arith, pow-suc 2 w)
+put-lt (suc w) n (suc k) b h l hn =
+    omega (arith, pow-suc 2 w, put-lt w (n / 2) k b h (omega arith) (omega (arith, pow-suc 2 w)))
+
+-- ---- the least task
+
+-- every set but the empty one has its least task in it, and that is a task of 0 to 63
+pub least-member : (w n : ℕ) → 0 < n → n < 2 ^ w → (bit n (trailingZeros w n) ≡ 1) × (trailingZeros w n < w)
+unfolding bit trailingZeros
+least-member zero n p h = absurd (omega arith)
+least-member (suc w) n p h = go (n % 2) refl (λ q. least-member w (n / 2) q (omega (arith, pow-suc 2 w)))
+  where
+    go : (d : ℕ) → n % 2 ≡ d → (0 < n / 2 → (bit (n / 2) (trailingZeros w (n / 2)) ≡ 1) × (trailingZeros w (n / 2) < w))
+        → (bit n (under d (trailingZeros w (n / 2))) ≡ 1) × (under d (trailingZeros w (n / 2)) < suc w)
+    go zero e ih = let l = ih (omega arith) in (l .0, omega arith)
+    go (suc d) e ih = (omega arith, omega arith)
+
+-- and no smaller number is in it
+pub least-lowest : (w n k : ℕ) → k < trailingZeros w n → bit n k ≡ 0
+unfolding bit trailingZeros
+least-lowest zero n k l = absurd (omega arith)
+least-lowest (suc w) n k l = go (n % 2) refl k l (λ j. least-lowest w (n / 2) j)
+  where
+    go : (d : ℕ) → n % 2 ≡ d → (j : ℕ) → j < under d (trailingZeros w (n / 2))
+        → ((i : ℕ) → i < trailingZeros w (n / 2) → bit (n / 2) i ≡ 0) → bit n j ≡ 0
+    go zero e zero h ih = e
+    go zero e (suc j) h ih = ih j (omega arith)
+    go (suc d) e j h ih = absurd (omega arith)
+
+-- ---- taking a task off and putting one on
+
+-- taking off what is not listed changes nothing
+pub without-absent : (list k : ℕ) → bit list k ≡ 0 → withoutOf list k ≡ list
+without-absent list k e = subst (λ (b : ℕ). put list k b ≡ list) e (put-id list k)
+
+-- the task is off then, and no other task is touched
+pub without-same : (list k : ℕ) → bit (withoutOf list k) k ≡ 0
+without-same list k = put-same list k 0 (omega arith)
+
+pub without-other : (list k j : ℕ) → j ≢ k → bit (withoutOf list k) j ≡ bit list j
+without-other list k j ne = put-other list k 0 j (omega arith) ne
+
+-- taking off a member lowers the size by one
+pub without-size : (list k : ℕ) → bit list k ≡ 1 → sizeOf (withoutOf list k) + 1 ≡ sizeOf list
+without-size list k e = omega (arith, put-ones list k 0 (omega arith))
+
+pub without-lt : (w list k : ℕ) → list < 2 ^ w → withoutOf list k < 2 ^ w
+without-lt w list k h = go (decLt k w)
+  where
+    go : Dec (k < w) → withoutOf list k < 2 ^ w
+    go (yes q) = put-lt w list k 0 (omega arith) q h
+    go (no q) = rw (without-absent list k (bit-high w list k h (omega arith))) h
+
+-- of the tasks 0 to 63, the one that is put on is in the set, and no other is touched; any other number changes nothing
+pub with-same : (list k : ℕ) → k < 64 → bit (withOf list k) k ≡ 1
+with-same list k h = rw (lt-ltb k 64 h) (put-same list k 1 (omega arith))
+
+pub with-other : (list k j : ℕ) → j ≢ k → bit (withOf list k) j ≡ bit list j
+with-other list k j ne = go (ltb k 64)
+  where
+    go : (b : Bool) → bit (pick b (put list k 1) list) j ≡ bit list j
+    go true = put-other list k 1 j (omega arith) ne
+    go false = refl
+
+pub with-past : (list k : ℕ) → 64 ≤ k → withOf list k ≡ list
+with-past list k h = rw (le-ltb k 64 h)
+
+pub with-lt : (list k : ℕ) → list < 2 ^ 64 → withOf list k < 2 ^ 64
+with-lt list k h = go (ltb k 64) refl
+  where
+    go : (b : Bool) → ltb k 64 ≡ b → pick b (put list k 1) list < 2 ^ 64
+    go true e = put-lt 64 list k 1 (omega arith) (ltb-true k 64 e) h
+    go false e = h
+
+-- ---- the first n tasks
+
+-- the digits of 2 ^ n - 1
+ones-bit : (n k : ℕ) → bit (2 ^ n - 1) k ≡ pick (ltb k n) 1 0
+unfolding bit
+ones-bit zero k = bit-zero k ∙ rw (le-ltb k 0 (omega arith))
+ones-bit (suc n) zero = rw (lt-ltb 0 (suc n) (omega arith)) (omega (arith, pow-suc 2 n, pow-pos n))
+ones-bit (suc n) (suc k) =
+    ap (λ (x : ℕ). bit x k) (omega (arith, pow-suc 2 n, pow-pos n)) ∙ ones-bit n k ∙ ap (λ (b : Bool). pick b 1 0) (sym (leb·suc-suc (suc k) n))
+
+-- its members are the tasks below n, for every n up to 64
+pub all-member : (n k : ℕ) → n ≤ 64 → k < n → bit (allOf n) k ≡ 1
+all-member n k h l = ones-bit (min n 64) k ∙ rw (lt-ltb k (min n 64) (omega arith))
+
+pub all-past : (n k : ℕ) → n ≤ k → bit (allOf n) k ≡ 0
+all-past n k l = ones-bit (min n 64) k ∙ rw (le-ltb k (min n 64) (omega arith))
+
+pub all-size : (n : ℕ) → n ≤ 64 → sizeOf (allOf n) ≡ n
+all-size n h = ones-ones (min n 64) ∙ omega arith
+
+pub all-lt : (n : ℕ) → allOf n < 2 ^ 64
+all-lt n = omega (arith, pow-pos (min n 64), pow-mono {i = min n 64} {j = 64} (omega arith))

@@ -1,0 +1,66 @@
+// Sets of tasks 0 to 63 in a u64, a bit a task. Every function is total: a task of 64 or more is in no set, and putting it on
+// changes nothing. What each answers is defined in specs/Set.antt; the laws are in specs/SetLaws.antt.
+ghost use mathlib.Core.Path.{_≡_};
+ghost use Rattle.bitset.specs.Tasks.{isCount};
+ghost use Rattle.bitset.specs.Set.{memberOf, leastOf, withoutOf, withOf, allOf, sizeOf};
+
+// Whether there can be n tasks: 1 to 64.
+pub fn is_count(n: usize) -> bool
+    ensures { λ r. ⌜ r ≡ isCount n ⌝ }
+{
+    (1 <= n) & (n <= 64)
+}
+
+// Whether the task is in the set.
+pub fn member(list: u64, task: usize) -> bool
+    ensures { λ r. ⌜ r ≡ memberOf list task ⌝ }
+{
+    if 64 <= task {
+        return false;
+    }
+    (list >> task) % 2 == 1
+}
+
+// The least task of the set; 64 for the empty set.
+pub fn least(list: u64) -> usize
+    ensures { λ r. ⌜ r ≡ leastOf list ⌝ }
+{
+    u64::trailing_zeros(list) as usize
+}
+
+// The set with the task taken off.
+pub fn without(list: u64, task: usize) -> u64
+    ensures { λ r. ⌜ r ≡ withoutOf list task ⌝ }
+{
+    if 64 <= task {
+        return list;
+    }
+    list & !(1u64 << task)
+}
+
+// The set with the task put on, if it is a task of 0 to 63.
+pub fn with(list: u64, task: usize) -> u64
+    ensures { λ r. ⌜ r ≡ withOf list task ⌝ }
+{
+    if 64 <= task {
+        return list;
+    }
+    list | (1u64 << task)
+}
+
+// The first n tasks, 64 at most.
+pub fn all(n: usize) -> u64
+    ensures { λ r. ⌜ r ≡ allOf n ⌝ }
+{
+    if 64 <= n {
+        return !0u64;
+    }
+    (1u64 << n) - 1
+}
+
+// How many tasks are in the set.
+pub fn size(list: u64) -> usize
+    ensures { λ r. ⌜ r ≡ sizeOf list ⌝ }
+{
+    u64::count_ones(list) as usize
+}
