@@ -1,14 +1,14 @@
 -- Laws of the sets of `Set.antt` and of the number of tasks: of single digits first, then those that the crates above cite.
 use mathlib.Core.Path.{_≡_, refl, sym, ap, _∙_, subst}
-use mathlib.Core.Logic.{_≢_, _⊎_, inl, inr}
+use mathlib.Core.Logic.{_≢_}
 use mathlib.Core.Bool.{Bool, true, false, and-eq-true-iff}
 use Prim.Native.Nat.{ℕ, zero, suc, _+_, _-_, _*_, _/_, _%_, _^_, _≤_, _<_, min}
-use native.Mathlib.Nat.{pow-suc, lt-of-not-le}
+use native.Mathlib.Nat.{pow-suc}
 use native.Mathlib.Decide.{decLt}
 use native.Mathlib.Omega.{arith}
 use lib.Dec.{ltb, leb, leb·suc-suc}
 use lib.Pow.{pow-pos, pow-mono}
-use lib.Count.{ones, trailingZeros, under, ones-step, ones-ones, trailing-le}
+use lib.Count.{ones, trailingZeros, under, ones-step, ones-ones}
 use borrow.Author.Tests.{lt-ltb, le-ltb, ltb-true, leb-true}
 use Rattle.bitset.specs.Choice.{pick}
 use Rattle.bitset.specs.Tasks.{isCount}
@@ -110,6 +110,11 @@ least-lowest (suc w) n k l = go (n % 2) refl k l (λ j. least-lowest w (n / 2) j
     go zero e zero h ih = e
     go zero e (suc j) h ih = ih j (omega arith)
     go (suc d) e j h ih = absurd (omega arith)
+
+-- the two at a set of tasks: trailing zeros yield its least task, which is a member, and no smaller number is
+pub least-of-list : (list : ℕ) → 0 < list → list < 2 ^ 64
+    → (bit list (leastOf list) ≡ 1) × (leastOf list < 64) × ((k : ℕ) → k < leastOf list → bit list k ≡ 0)
+least-of-list list pos h = let l = least-member 64 list pos h in (l .0, l .1, least-lowest 64 list)
 
 -- ---- taking a task off and putting one on
 

@@ -1,19 +1,19 @@
 -- Laws of parent tables: what the check accepts, and who is a child.
 use mathlib.Core.Path.{_≡_, refl, sym, ap, _∙_}
-use mathlib.Core.Bool.{Bool, true, false, false≢true, _&&_, and-eq-true-iff}
+use mathlib.Core.Bool.{Bool, true, false, false≢true, _&&_, not, and-eq-true-iff}
 use mathlib.Core.List.{List}
-use mathlib.Core.Logic.{_≢_, _⊎_, inl, inr}
-use Prim.Native.Nat.{ℕ, zero, suc, _+_, _^_, _≤_, _<_}
+use mathlib.Core.Logic.{_≢_, _↔_, _⊎_, inl, inr}
+use Prim.Native.Nat.{ℕ, zero, suc, _+_, _≤_, _<_}
 use native.Mathlib.Nat.{eq-or-lt-of-le, le-of-suc-le-suc}
 use native.Mathlib.Numerals.{add-one}
 use native.Mathlib.Decide.{ℕ-discrete, decLt}
 use native.Mathlib.Omega.{arith}
 use lib.Dec.{eqb, ltb}
 use lib.ListN.{length, List·getD-eq-default}
-use borrow.Author.Tests.{eq-eqb, ne-eqb, lt-ltb, le-ltb, eqb-true, eqb-false, ltb-true, ltb-false}
+use borrow.Author.Tests.{eq-eqb, ne-eqb, lt-ltb, le-ltb, eqb-true, eqb-false, ltb-true}
 use Rattle.bitset.specs.Choice.{pick}
 use Rattle.bitset.specs.Set.{bit, withOf}
-use Rattle.bitset.specs.SetLaws.{bit-zero, with-same, with-other, with-lt}
+use Rattle.bitset.specs.SetLaws.{bit-zero, with-same, with-other}
 use Rattle.parents.specs.Parents.{parentOf, IsTree, entryOk, entriesOk, checkOf, isChild, childrenBelow, childrenOf}
 
 -- ---- the check
@@ -112,6 +112,26 @@ children-bit table p (suc m) r h = go (ℕ-discrete r m) (children-bit table p m
         same : Dec (r < m) → ltb r m ≡ ltb r (suc m)
         same (yes l) = lt-ltb r m l ∙ sym (lt-ltb r (suc m) (omega arith))
         same (no l) = le-ltb r m (omega arith) ∙ sym (le-ltb r (suc m) (omega arith))
+
+pub children-exactly : (table : List ℕ) (p r : ℕ) → length table ≤ 64
+    → (bit (childrenOf table p) r ≡ 1) ↔ ((r ≢ 0) × (r < length table) × (parentOf table r ≡ p))
+children-exactly table p r h = (from, to)
+  where
+    law : bit (childrenOf table p) r ≡ pick (ltb r (length table) && isChild table p r) 1 0
+    law = children-bit table p (length table) r h
+
+    from : bit (childrenOf table p) r ≡ 1 → (r ≢ 0) × (r < length table) × (parentOf table r ≡ p)
+    from e = go (ltb r (length table)) (eqb r 0) (eqb (parentOf table r) p) refl refl refl (sym law ∙ e)
+      where
+        go : (a b c : Bool) → ltb r (length table) ≡ a → eqb r 0 ≡ b → eqb (parentOf table r) p ≡ c
+            → _≡_ {A = ℕ} (pick (a && (not b && c)) 1 0) 1 → (r ≢ 0) × (r < length table) × (parentOf table r ≡ p)
+        go true false true ea eb ec e = (eqb-false r 0 eb, ltb-true r (length table) ea, eqb-true (parentOf table r) p ec)
+        go true false false ea eb ec e = absurd (omega arith)
+        go true true c ea eb ec e = absurd (omega arith)
+        go false b c ea eb ec e = absurd (omega arith)
+
+    to : (r ≢ 0) × (r < length table) × (parentOf table r ≡ p) → bit (childrenOf table p) r ≡ 1
+    to k = law ∙ rw (lt-ltb r (length table) (k .1), ne-eqb r 0 (k .0), eq-eqb (parentOf table r) p (k .2))
 
 -- no task is below 0 and only the root below 1, and one task more adds itself if it is a child
 pub children-none : (table : List ℕ) (p n : ℕ) → n ≤ 1 → childrenBelow table p n ≡ 0

@@ -1,3 +1,4 @@
+-- `bitset::least` meets its contract: the count of trailing zeros fits the result's type.
 use borrow.Author.Needs.{needs}
 use native.Mathlib.Omega.{arith}
 use lib.Count.{trailing-le}

@@ -1,5 +1,6 @@
+-- `bitset::member` meets its contract: past the word there is no digit, and within it a shift gives the digit.
 use borrow.Author.Needs.{needs}
-use mathlib.Core.Path.{_≡_, sym, ap}
+use mathlib.Core.Path.{ap}
 use Prim.Native.Nat.{ℕ}
 use lib.Dec.{eqb}
 use Rattle.bitset.specs.SetLaws.{bit-high}

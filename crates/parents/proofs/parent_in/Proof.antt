@@ -1,11 +1,11 @@
+-- `parents::parent_in` meets its contract, a return for each shape.
 use borrow.Author.Needs.{needs}
-use mathlib.Core.Path.{_≡_, refl, sym, ap, _∙_}
+use mathlib.Core.Path.{sym, ap, _∙_}
 use Prim.Native.Nat.{ℕ}
 use Rattle.parents.specs.Shapes.{shapeParent}
 use Rattle.parents.specs.ShapesLaws.{shape-root, without-least}
 use native.Mathlib.Omega.{arith}
 use borrow.Author.Tests.{ne-eqb}
-use lib.Count.{trailingZeros}
 use Rattle.bitset.specs.Set.{withoutOf}
 use Rattle.parents.proofs.parent_in.Statement.{statement}
 use Rattle.parents.proofs.parent_in.Tie as tie
