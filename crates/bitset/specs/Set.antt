@@ -1,8 +1,8 @@
 -- Sets of tasks 0 to 63, as the binary digits of a number: task k is in the set exactly if digit k is 1.
 -- Document 01: "The list is 64 bits, and the lowest set bit names the task taken."
 use Prim.Native.Nat.{ℕ, zero, suc, _+_, _-_, _*_, _/_, _%_, _^_, min}
-use mathlib.Core.Bool.{Bool}
-use lib.Dec.{eqb, ltb}
+use mathlib.Core.Bool.{Bool, _&&_}
+use lib.Dec.{eqb, leb, ltb}
 use lib.Count.{ones, trailingZeros}
 use Rattle.bitset.specs.Choice.{pick}
 
@@ -35,6 +35,14 @@ withOf list k = pick (ltb k 64) (put list k 1) list
 -- the first n tasks, 64 at most
 abbrev pub allOf : ℕ → ℕ
 allOf n = 2 ^ min n 64 - 1
+
+-- whether every task of the set is in the other one, and none is w or more
+unfoldable pub withinDigits : ℕ → ℕ → ℕ → Bool
+withinDigits zero list other = eqb list 0
+withinDigits (suc w) list other = leb (list % 2) (other % 2) && withinDigits w (list / 2) (other / 2)
+
+abbrev pub withinOf : ℕ → ℕ → Bool
+withinOf list other = withinDigits 64 list other
 
 -- how many tasks are in the set
 abbrev pub sizeOf : ℕ → ℕ

@@ -3,16 +3,17 @@ use mathlib.Core.Path.{_≡_, refl, sym, ap, _∙_, subst}
 use mathlib.Core.Logic.{_≢_}
 use mathlib.Core.Bool.{Bool, true, false, and-eq-true-iff}
 use Prim.Native.Nat.{ℕ, zero, suc, _+_, _-_, _*_, _/_, _%_, _^_, _≤_, _<_, min}
-use native.Mathlib.Nat.{pow-suc}
-use native.Mathlib.Decide.{decLt}
+use native.Mathlib.Nat.{pow-suc, le-refl, le-trans, le-of-eq}
+use native.Mathlib.Decide.{ℕ-discrete, decLt}
 use native.Mathlib.Omega.{arith}
 use lib.Dec.{ltb, leb, leb·suc-suc}
+use lib.Bits.{bitAnd, and-step, and-le-l}
 use lib.Pow.{pow-pos, pow-mono}
 use lib.Count.{ones, trailingZeros, under, ones-step, ones-ones}
-use borrow.Author.Tests.{lt-ltb, le-ltb, ltb-true, leb-true}
+use borrow.Author.Tests.{lt-ltb, le-ltb, ltb-true, le-leb, leb-true, eq-eqb, eqb-true}
 use Rattle.bitset.specs.Choice.{pick}
 use Rattle.bitset.specs.Tasks.{isCount}
-use Rattle.bitset.specs.Set.{bit, put, leastOf, withoutOf, withOf, allOf, sizeOf}
+use Rattle.bitset.specs.Set.{bit, put, withinDigits, leastOf, withoutOf, withOf, allOf, sizeOf}
 
 -- ---- the number of tasks
 
@@ -183,3 +184,70 @@ all-size n h = ones-ones (min n 64) ∙ omega arith
 
 pub all-lt : (n : ℕ) → allOf n < 2 ^ 64
 all-lt n = omega (arith, pow-pos (min n 64), pow-mono {i = min n 64} {j = 64} (omega arith))
+
+-- ---- sets within each other
+
+-- a set is within another exactly if each of its tasks is in the other one
+module _ (w list other : ℕ) where
+  digits : withinDigits (suc w) list other ≡ true → (list % 2 ≤ other % 2) × (withinDigits w (list / 2) (other / 2) ≡ true)
+  unfolding withinDigits
+  digits e =
+      let both = and-eq-true-iff (leb (list % 2) (other % 2)) (withinDigits w (list / 2) (other / 2)) .0 e in
+      (leb-true (list % 2) (other % 2) (both .0), both .1)
+
+pub within-lt : (w list other : ℕ) → withinDigits w list other ≡ true → list < 2 ^ w
+unfolding withinDigits
+within-lt zero list other e = omega (arith, eqb-true list 0 e)
+within-lt (suc w) list other e = omega (arith, pow-suc 2 w, within-lt w (list / 2) (other / 2) (digits w list other e .1))
+
+pub within-bit : (w list other k : ℕ) → withinDigits w list other ≡ true → bit list k ≤ bit other k
+unfolding withinDigits bit
+within-bit zero list other k e = omega (arith, ap (λ (x : ℕ). bit x k) (eqb-true list 0 e), bit-zero k)
+within-bit (suc w) list other zero e = digits w list other e .0
+within-bit (suc w) list other (suc k) e = within-bit w (list / 2) (other / 2) k (digits w list other e .1)
+
+pub within-bits : (w list other : ℕ) → list < 2 ^ w → ((k : ℕ) → bit list k ≤ bit other k) → withinDigits w list other ≡ true
+unfolding withinDigits bit
+within-bits zero list other h f = eq-eqb list 0 (omega arith)
+within-bits (suc w) list other h f =
+    rw (le-leb (list % 2) (other % 2) (f 0), within-bits w (list / 2) (other / 2) (omega (arith, pow-suc 2 w)) (λ k. f (suc k)))
+
+-- in a word, by `&`
+pub within-and : (w list other : ℕ) → withinDigits w list other ≡ true → bitAnd list other ≡ list
+unfolding withinDigits
+within-and zero list other e = omega (arith, eqb-true list 0 e, and-le-l list other)
+within-and (suc w) list other e =
+    let both = digits w list other e in
+    omega (arith, and-step list other, both .0, within-and w (list / 2) (other / 2) (both .1))
+
+pub and-within : (w list other : ℕ) → list < 2 ^ w → bitAnd list other ≡ list → withinDigits w list other ≡ true
+unfolding withinDigits
+and-within zero list other h e = eq-eqb list 0 (omega arith)
+and-within (suc w) list other h e =
+    rw (
+      le-leb (list % 2) (other % 2) (omega (arith, and-step list other)),
+      and-within w (list / 2) (other / 2) (omega (arith, pow-suc 2 w)) (omega (arith, and-step list other)),
+    )
+
+pub within-self : (w list : ℕ) → list < 2 ^ w → withinDigits w list list ≡ true
+within-self w list h = within-bits w list list h (λ k. le-refl (bit list k))
+
+-- taking a task off keeps a set within
+pub without-within : (w list other k : ℕ) → withinDigits w list other ≡ true → withinDigits w (withoutOf list k) other ≡ true
+without-within w list other k e =
+    within-bits w (withoutOf list k) other (without-lt w list k (within-lt w list other e))
+    (λ j. le-trans (fewer j (ℕ-discrete j k)) (within-bit w list other j e))
+  where
+    fewer : (j : ℕ) → Dec (j ≡ k) → bit (withoutOf list k) j ≤ bit list j
+    fewer j (yes e) = rw e (le-trans (le-of-eq (without-same list k)) (omega arith))
+    fewer j (no ne) = le-of-eq (without-other list k j ne)
+
+-- the least task of a set that is within another is in that one
+pub least-within : (list other : ℕ) → withinDigits 64 list other ≡ true → list ≢ 0 → bit other (leastOf list) ≡ 1
+least-within list other e ne =
+    omega (
+      arith,
+      least-of-list list (omega arith) (within-lt 64 list other e) .0,
+      within-bit 64 list other (leastOf list) e,
+      bit-le other (leastOf list),
+    )

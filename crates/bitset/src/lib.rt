@@ -2,7 +2,7 @@
 // changes nothing. What each answers is defined in specs/Set.antt; the laws are in specs/SetLaws.antt.
 ghost use mathlib.Core.Path.{_≡_};
 ghost use Rattle.bitset.specs.Tasks.{isCount};
-ghost use Rattle.bitset.specs.Set.{memberOf, leastOf, withoutOf, withOf, allOf, sizeOf};
+ghost use Rattle.bitset.specs.Set.{memberOf, leastOf, withoutOf, withOf, allOf, withinOf, sizeOf};
 
 // Whether there can be n tasks: 1 to 64.
 pub fn is_count(n: usize) -> bool
@@ -56,6 +56,13 @@ pub fn all(n: usize) -> u64
         return !0u64;
     }
     (1u64 << n) - 1
+}
+
+// Whether every task of the set is in the other one.
+pub fn within(list: u64, other: u64) -> bool
+    ensures { λ r. ⌜ r ≡ withinOf list other ⌝ }
+{
+    list & other == list
 }
 
 // How many tasks are in the set.

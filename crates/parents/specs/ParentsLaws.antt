@@ -3,7 +3,7 @@ use mathlib.Core.Path.{_≡_, refl, sym, ap, _∙_}
 use mathlib.Core.Bool.{Bool, true, false, false≢true, _&&_, not, and-eq-true-iff}
 use mathlib.Core.List.{List}
 use mathlib.Core.Logic.{_≢_, _↔_, _⊎_, inl, inr}
-use Prim.Native.Nat.{ℕ, zero, suc, _+_, _≤_, _<_}
+use Prim.Native.Nat.{ℕ, zero, suc, _+_, _^_, _≤_, _<_}
 use native.Mathlib.Nat.{eq-or-lt-of-le, le-of-suc-le-suc}
 use native.Mathlib.Numerals.{add-one}
 use native.Mathlib.Decide.{ℕ-discrete, decLt}
@@ -13,7 +13,7 @@ use lib.ListN.{length, List·getD-eq-default}
 use borrow.Author.Tests.{eq-eqb, ne-eqb, lt-ltb, le-ltb, eqb-true, eqb-false, ltb-true}
 use Rattle.bitset.specs.Choice.{pick}
 use Rattle.bitset.specs.Set.{bit, withOf}
-use Rattle.bitset.specs.SetLaws.{bit-zero, with-same, with-other}
+use Rattle.bitset.specs.SetLaws.{bit-zero, with-same, with-other, with-lt}
 use Rattle.parents.specs.Parents.{parentOf, IsTree, entryOk, entriesOk, checkOf, isChild, childrenBelow, childrenOf}
 
 -- ---- the check
@@ -149,3 +149,13 @@ pub children-same : (table : List ℕ) (p r : ℕ) → 0 < r → parentOf table 
     → childrenBelow table p r ≡ childrenBelow table p (r + 1)
 unfolding childrenBelow
 children-same table p r pos ne = rw (add-one r, ne-eqb r 0 (omega arith), ne-eqb (parentOf table r) p ne)
+
+-- it is a set of tasks 0 to 63
+pub children-lt : (table : List ℕ) (p n : ℕ) → childrenBelow table p n < 2 ^ 64
+unfolding childrenBelow
+children-lt table p zero = omega arith
+children-lt table p (suc r) = go (isChild table p r) (children-lt table p r)
+  where
+    go : (b : Bool) → childrenBelow table p r < 2 ^ 64 → pick b (withOf (childrenBelow table p r) r) (childrenBelow table p r) < 2 ^ 64
+    go true h = with-lt (childrenBelow table p r) r h
+    go false h = h
