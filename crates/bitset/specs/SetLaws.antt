@@ -152,6 +152,10 @@ with-other list k j ne = go (ltb k 64)
     go true = put-other list k 1 j (omega arith) ne
     go false = refl
 
+-- putting on a task that was not there raises the size by one
+pub with-size : (list k : ℕ) → k < 64 → bit list k ≡ 0 → sizeOf (withOf list k) ≡ sizeOf list + 1
+with-size list k h e = rw (lt-ltb k 64 h) (omega (arith, put-ones list k 1 (omega arith)))
+
 pub with-past : (list k : ℕ) → 64 ≤ k → withOf list k ≡ list
 with-past list k h = rw (le-ltb k 64 h)
 
@@ -251,3 +255,11 @@ least-within list other e ne =
       within-bit 64 list other (leastOf list) e,
       bit-le other (leastOf list),
     )
+
+-- a set within another is no larger
+pub within-size : (w list other : ℕ) → withinDigits w list other ≡ true → sizeOf list ≤ sizeOf other
+unfolding withinDigits
+within-size zero list other e = rw (eqb-true list 0 e) (omega (arith, ones-ones 0))
+within-size (suc w) list other e =
+    let both = digits w list other e in
+    omega (arith, both .0, within-size w (list / 2) (other / 2) (both .1), ones-step list, ones-step other)

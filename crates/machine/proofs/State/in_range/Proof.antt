@@ -1,0 +1,16 @@
+-- `machine::State::in_range` meets its contract: the tests are those of the definition, in its order.
+use borrow.Author.Needs.{needs}
+use Rattle.machine.specs.Range.{stateOk}
+use Rattle.machine.proofs.State.in_range.Statement.{statement}
+use Rattle.machine.proofs.State.in_range.Tie as tie
+
+returns : tie.Need-returns
+unfolding stateOk
+returns c = rw (c .before .before .before .before .before .before .before .is-kind .ensures, c .before .before .before .before .before .before .is-count .ensures, c .before .before .before .before .modulus-ok .ensures, c .before .before .before .field-ok .ensures, c .before .before .field-ok2 .ensures, c .before .parents-ok .ensures, c .tasks-ok .ensures)
+
+pub in-range-spec : {M : Type 1} → statement M
+in-range-spec =
+    tie.close
+    (tie.spec (λ c. search needs) (λ c. search needs) (λ c κs. search needs) (λ c κs. search needs) (λ c. search needs)
+    (λ c. search needs) (λ c κs. search needs) (λ c. search needs) (λ c κs. search needs) (λ c κs. search needs)
+    (λ c κs. search needs) (λ c κs. search needs) returns)

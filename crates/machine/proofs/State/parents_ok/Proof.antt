@@ -1,0 +1,45 @@
+-- `machine::State::parents_ok` meets its contract, for a tree and for another kind.
+use borrow.Author.Needs.{needs}
+use mathlib.Core.Path.{_≡_, sym}
+use mathlib.Core.Bool.{_&&_, Bool}
+use Prim.Native.Nat.{ℕ, _-_, min}
+use native.Mathlib.Omega.{arith}
+use lib.ListN.{length, take, drop, length-drop}
+use lib.Seq.{length-take-le, take-all}
+use lib.Dec.{eqb}
+use borrow.Author.Tests.{eq-eqb, ne-eqb}
+use Rattle.parents.specs.Parents.{checkOf}
+use Rattle.machine.specs.declared.State.{State}
+use Rattle.machine.specs.Range.{allZero, parentsOk}
+use Rattle.machine.proofs.Arrays.{parents-64, take-min, drop-min}
+use Rattle.machine.proofs.State.parents_ok.Statement.{statement}
+use Rattle.machine.proofs.State.parents_ok.Tie as tie
+
+-- a tree: the first m entries are the table, and the part of the array after them is 0
+tabled : (s : State) (m k : ℕ) (accepts zero : Bool) → length (s .parents) ≡ 64 → s .kind ≡ 3 → m ≡ min (s .n) 64
+    → k ≡ checkOf (take m (s .parents)) (s .n) → accepts ≡ eqb k 0 → zero ≡ allZero (take (64 - m) (drop m (s .parents))) → (accepts && zero) ≡ parentsOk s
+tabled s m k accepts zero long kind em ek ea ez =
+    rw (ea, ez, ek, eq-eqb (s .kind) 3 kind, take-all (64 - m) (drop m (s .parents)) (omega (arith, length-drop m (s .parents))), em, take-min (s .n) (s .parents) long, drop-min (s .n) (s .parents) long)
+
+returns : tie.Need-returns
+returns c = rw (ne-eqb _ 3 (c .before .before .if1 .taken)) (c .all-zero .ensures)
+
+part-all-zero-end : tie.Need-part-all-zero-end
+part-all-zero-end c = omega (arith, parents-64 (c .before .before .before .before .before .args .self) _ (c .before .before .before .before .before .good .0))
+
+array-share-prefix-parents : tie.Need-array-share-prefix-parents
+array-share-prefix-parents c = omega (arith, c .before .before .before .table-length .ensures, parents-64 (c .before .before .before .before .before .before .before .args .self) _ (c .before .before .before .before .before .before .before .good .0))
+
+slice-aggregate-check : tie.Need-slice-aggregate-check
+slice-aggregate-check c = sym (length-take-le _ _ (omega (arith, c .before .before .before .before .table-length .ensures, parents-64 (c .before .before .before .before .before .before .before .before .args .self) _ (c .before .before .before .before .before .before .before .before .good .0))))
+
+returns-2 : tie.Need-returns-2
+returns-2 c = let s = c .before .before .before .before .before .before .before .before .before .before .before .args .self in
+    tabled s (c .before .before .before .before .before .before .before .table-length .result) _ _ _ (parents-64 s _ (c .before .before .before .before .before .before .before .before .before .before .before .good .0)) (c .before .before .before .before .before .before .before .before .if1 .left) (c .before .before .before .before .before .before .before .table-length .ensures) (c .before .check .ensures) (c .accepted .ensures) (c .before .before .before .before .all-zero2 .ensures)
+
+pub parents-ok-spec : {M : Type 1} → statement M
+parents-ok-spec =
+    tie.close
+    (tie.spec (λ c. search needs) (λ c κs. search needs) returns (λ c κs. search needs) (λ c. search needs)
+    (λ c. search needs) part-all-zero-end (λ c κs. search needs) array-share-prefix-parents slice-aggregate-check
+    (λ c. search needs) (λ c κs. search needs) (λ c κs. search needs) returns-2)

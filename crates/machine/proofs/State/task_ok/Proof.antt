@@ -1,0 +1,16 @@
+-- `machine::State::task_ok` meets its contract: the tests are those of the definition, in its order.
+use borrow.Author.Needs.{needs}
+use Rattle.machine.specs.Range.{taskOk}
+use Rattle.machine.proofs.State.task_ok.Statement.{statement}
+use Rattle.machine.proofs.State.task_ok.Tie as tie
+
+returns : tie.Need-returns
+unfolding taskOk
+returns c = rw (c .before .before .before .before .before .before .before .before .before .before .last-line .ensures, c .before .before .before .before .before .before .before .field-ok .ensures, c .before .before .before .before .before .before .field-ok2 .ensures, c .before .before .before .before .before .field-ok3 .ensures, c .before .before .before .within .ensures, c .before .before .before .before .list-room .ensures, c .before .before .field-ok4 .ensures, c .before .field-ok5 .ensures, c .field-ok6 .ensures)
+
+pub task-ok-spec : {M : Type 1} → statement M
+task-ok-spec =
+    tie.close
+    (tie.spec (λ c. search needs) (λ c. search needs) (λ c κs. search needs) (λ c κs. search needs)
+    (λ c κs. search needs) (λ c κs. search needs) (λ c κs. search needs) (λ c κs. search needs) (λ c κs. search needs)
+    (λ c κs. search needs) (λ c κs. search needs) returns)

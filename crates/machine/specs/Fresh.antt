@@ -1,0 +1,95 @@
+-- The fresh state, and the reasons that refuse one (01, "The state and a turn" and reasons 2 to 6).
+use mathlib.Core.Bool.{Bool, _&&_}
+use mathlib.Core.List.{List, _++_}
+use Prim.Native.Nat.{ℕ, _-_}
+use lib.Dec.{eqb, leb}
+use lib.ListN.{length, replicate}
+use Rattle.bitset.specs.Choice.{pick}
+use Rattle.bitset.specs.Tasks.{isCount}
+use Rattle.parents.specs.Parents.{checkOf}
+use Rattle.machine.specs.declared.Task.{Task}
+use Rattle.machine.specs.declared.State.{State}
+use Rattle.machine.specs.declared.Setup.{Setup}
+use Rattle.machine.specs.declared.Fresh.{Fresh}
+use Rattle.machine.specs.Setters.{zeroTask, withLine}
+
+-- what a fresh state is made from: kind, N, R and the parent table
+pub record Inputs : Type 0 where
+  pub kind : ℕ
+  pub n : ℕ
+  pub modulus : ℕ
+  pub parents : List ℕ
+
+abbrev pub inputsOf : Setup → List ℕ → Inputs
+inputsOf setup parents = record { kind = setup .kind; n = setup .n; modulus = setup .modulus; parents = parents }
+
+-- "0 symmetric, 1 fetch-and-increment, 2 ring, 3 tree"
+abbrev pub isKind : ℕ → Bool
+isKind kind = leb kind 3
+
+-- "R is 3 to 255; for other kinds R is 0."
+abbrev pub modulusOk : ℕ → ℕ → Bool
+modulusOk kind r = pick (eqb kind 0) (leb 3 r && leb r 255) (eqb r 0)
+
+-- 5: "The parent table's length isn't N for a tree, or isn't 0 for another kind."; 6 for a tree, by the table's check
+abbrev pub tableReason : ℕ → ℕ → List ℕ → ℕ
+tableReason kind n parents = pick (eqb kind 3) (checkOf parents n) (pick (eqb (length parents) 0) 0 5)
+
+-- "A fresh state checks 2 to 6": the first reason that applies, 0 if none does
+unfoldable pub freshReason : Inputs → ℕ
+freshReason i =
+    pick (isKind (i .kind))
+    (pick (isCount (i .n))
+    (pick (modulusOk (i .kind) (i .modulus))
+    (tableReason (i .kind) (i .n) (i .parents))
+    4)
+    3)
+    2
+
+-- "Each task has a line and a count, fresh 11 and 0"; "fields not named above start at 0"
+abbrev pub freshTask : Task
+freshTask = withLine zeroTask 11
+
+-- "Sense (fresh 1)" for kind 1, and 0 for another kind, which doesn't use it
+abbrev pub freshSense : ℕ → ℕ
+freshSense kind = pick (eqb kind 1) 1 0
+
+-- n of 64 tasks are fresh, and the tasks from n on are all zero
+abbrev pub freshTasks : ℕ → List Task
+freshTasks n = replicate n freshTask ++ replicate (64 - n) zeroTask
+
+-- the table in the first bytes of 64, and 0 after it
+abbrev pub padded : List ℕ → List ℕ
+padded parents = parents ++ replicate (64 - length parents) 0
+
+abbrev pub freshState : Inputs → State
+freshState i =
+    record {
+      kind = i .kind;
+      n = i .n;
+      modulus = i .modulus;
+      arrivals = 0;
+      sense = freshSense (i .kind);
+      parents = padded (i .parents);
+      tasks = freshTasks (i .n);
+    }
+
+-- "A refused fresh state: all fields 0"
+abbrev pub zeroState : State
+zeroState =
+    record {
+      kind = 0;
+      n = 0;
+      modulus = 0;
+      arrivals = 0;
+      sense = 0;
+      parents = replicate 64 0;
+      tasks = replicate 64 zeroTask;
+    }
+
+unfoldable pub freshOf : Inputs → Fresh
+freshOf i =
+    record {
+      state = pick (eqb (freshReason i) 0) (freshState i) zeroState;
+      reason = freshReason i;
+    }

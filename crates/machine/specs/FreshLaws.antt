@@ -1,0 +1,149 @@
+-- Laws of the fresh state: when it is refused, and that an accepted one is in range.
+use mathlib.Core.Path.{_≡_, refl, sym, ap, _∙_, subst}
+use mathlib.Core.Bool.{Bool, true, false, _&&_, _||_}
+use mathlib.Core.List.{List, [], _∷_}
+use mathlib.Core.Logic.{_≢_}
+use Prim.Native.Nat.{ℕ, zero, suc, _+_, _-_, _≤_, _<_}
+use native.Mathlib.Omega.{arith}
+use lib.Dec.{eqb}
+use lib.ListN.{length, getD, drop, replicate, length-replicate, getD-replicate, List·getD-append}
+use lib.Seq.{getD-append-add, take-at, drop-at}
+use borrow.Author.Tests.{eq-eqb, ne-eqb, lt-ltb, le-leb, leb-true, eqb-true}
+use Rattle.bitset.specs.Choice.{pick}
+use Rattle.bitset.specs.Tasks.{isCount}
+use Rattle.bitset.specs.SetLaws.{is-count, within-bits, bit-zero}
+use Rattle.parents.specs.Parents.{checkOf}
+use Rattle.parents.specs.ParentsLaws.{accepted}
+use Rattle.machine.specs.declared.State.{State}
+use Rattle.machine.specs.Setters.{zeroTask}
+use Rattle.machine.specs.Fresh.{Inputs, isKind, modulusOk, tableReason, freshReason, freshTask, freshTasks, padded, freshState, zeroState, freshOf}
+use Rattle.machine.specs.Range.{tableOf, fieldOk, listRoom, allZero, parentsOk, taskZero, Valid}
+use Rattle.machine.specs.TurnLaws.{by-test}
+use Rattle.machine.specs.RangeLaws.{TaskRange, valid, line-14, modulus-3}
+
+-- what an accepted fresh state is made from
+pub record Accepted (i : Inputs) : Type 0 where
+  pub kind : i .kind ≤ 3
+  pub some : 1 ≤ i .n
+  pub few : i .n ≤ 64
+  pub modulus : modulusOk (i .kind) (i .modulus) ≡ true
+  pub table : tableReason (i .kind) (i .n) (i .parents) ≡ 0
+
+-- a fresh state is accepted exactly if none of the reasons applies
+pub accepted-inputs : (i : Inputs) → freshReason i ≡ 0 → Accepted i
+unfolding freshReason
+accepted-inputs i e = go (isKind (i .kind)) (isCount (i .n)) (modulusOk (i .kind) (i .modulus)) refl refl refl e
+  where
+    go : (a b c : Bool) → isKind (i .kind) ≡ a → isCount (i .n) ≡ b → modulusOk (i .kind) (i .modulus) ≡ c
+        → pick a (pick b (pick c (tableReason (i .kind) (i .n) (i .parents)) 4) 3) 2 ≡ 0 → Accepted i
+    go true true true ea eb ec e =
+        let n = is-count (i .n) eb in
+        record { kind = leb-true (i .kind) 3 ea; some = n .0; few = n .1; modulus = ec; table = e }
+    go true true false ea eb ec e = absurd (omega arith)
+    go true false c ea eb ec e = absurd (omega arith)
+    go false b c ea eb ec e = absurd (omega arith)
+
+pub inputs-accepted : (i : Inputs) → Accepted i → freshReason i ≡ 0
+unfolding freshReason
+inputs-accepted i a =
+    rw (le-leb (i .kind) 3 (a .kind), le-leb 1 (i .n) (a .some), le-leb (i .n) 64 (a .few), a .modulus) (a .table)
+
+-- ---- an accepted one is in range
+
+pub fresh-at : (n q : ℕ) → q < n → getD (freshTasks n) q zeroTask ≡ freshTask
+fresh-at n q h =
+    List·getD-append (replicate n freshTask) (replicate (64 - n) zeroTask) zeroTask q (rw (length-replicate n freshTask) h)
+    ∙ getD-replicate n q freshTask zeroTask h
+
+zero-at : (n q : ℕ) → n ≤ q → q < 64 → getD (freshTasks n) q zeroTask ≡ zeroTask
+zero-at n q h l =
+    let e : q ≡ length (replicate n freshTask) + (q - n) = omega (arith, length-replicate n freshTask) in
+    ap (λ (k : ℕ). getD (freshTasks n) k zeroTask) e
+    ∙ getD-append-add (replicate n freshTask) (replicate (64 - n) zeroTask) (q - n) zeroTask
+    ∙ getD-replicate (64 - n) (q - n) zeroTask zeroTask (omega arith)
+
+all-zeros : (n : ℕ) → allZero (replicate n 0) ≡ true
+unfolding allZero
+all-zeros zero = refl
+all-zeros (suc n) = all-zeros n
+
+-- a field that is 0 is in range
+field-zero : (u : Bool) (bound : ℕ) → (u ≡ true → 0 < bound) → fieldOk u bound 0 ≡ true
+field-zero u bound f = by-test (λ b. b ≡ true) u (λ e. lt-ltb 0 bound (f e)) (λ e. refl)
+
+fresh-range : (s : State) (q : ℕ) → 1 ≤ s .n → modulusOk (s .kind) (s .modulus) ≡ true → TaskRange s q freshTask
+fresh-range s q some m =
+    record {
+      line-from = omega arith;
+      line-to = omega (arith, line-14 (s .kind));
+      count = omega arith;
+      tag = field-zero (eqb (s .kind) 0) (s .modulus) tagged;
+      old = field-zero (eqb (s .kind) 0) (s .modulus) tagged;
+      looked = field-zero (eqb (s .kind) 0 || eqb (s .kind) 3) (s .n) (λ _. some);
+      list = within-bits 64 0 (listRoom s q) (omega arith) (λ k. omega (arith, bit-zero k));
+      aim = field-zero (eqb (s .kind) 1) 2 (λ _. omega arith);
+      toggle = field-zero (eqb (s .kind) 2) 2 (λ _. omega arith);
+      flag = field-zero (eqb (s .kind) 3) 2 (λ _. omega arith);
+    }
+  where
+    tagged : eqb (s .kind) 0 ≡ true → 0 < s .modulus
+    tagged e = omega (arith, modulus-3 (s .modulus) (rw (eqb-true (s .kind) 0 e) at m))
+
+-- the parents of an accepted fresh state are its table, with 0 after it
+fresh-parents : (i : Inputs) → Accepted i → parentsOk (freshState i) ≡ true
+fresh-parents i a =
+    by-test (λ b. b ≡ true) (eqb (i .kind) 3) tree other
+  where
+    zeros : ℕ → List ℕ
+    zeros k = replicate k 0
+
+    reason : ℕ
+    reason = tableReason (i .kind) (i .n) (i .parents)
+
+    tree : eqb (i .kind) 3 ≡ true → eqb (checkOf (tableOf (freshState i)) (i .n)) 0 && allZero (drop (i .n) (padded (i .parents))) ≡ true
+    tree k =
+        let table : checkOf (i .parents) (i .n) ≡ 0 = rw k at (a .table) in
+        let long = accepted (i .parents) (i .n) table .long in
+        rw (
+          take-at (i .parents) (zeros (64 - length (i .parents))) (i .n) long,
+          drop-at (i .parents) (zeros (64 - length (i .parents))) (i .n) long,
+          table,
+        )
+        (all-zeros (64 - length (i .parents)))
+
+    other : eqb (i .kind) 3 ≡ false → allZero (padded (i .parents)) ≡ true
+    other k = none (i .parents) (length-0 (rw k at (a .table)))
+      where
+        length-0 : _≡_ {A = ℕ} (pick (eqb (length (i .parents)) 0) 0 5) 0 → length (i .parents) ≡ 0
+        length-0 = by-test (λ x. _≡_ {A = ℕ} x 0 → length (i .parents) ≡ 0) (eqb (length (i .parents)) 0) (λ e _. eqb-true (length (i .parents)) 0 e) (λ _ z. absurd (omega arith))
+
+        none : (ps : List ℕ) → length ps ≡ 0 → allZero (padded ps) ≡ true
+        none [] e = all-zeros 64
+        none (x ∷ ps) e = absurd (omega arith)
+
+-- 01: "A fresh state is in range"
+pub fresh-valid : (i : Inputs) → freshReason i ≡ 0 → Valid (freshState i)
+unfolding taskZero
+fresh-valid i e =
+    let a = accepted-inputs i e in
+    valid (freshState i)
+    (record {
+      kind = a .kind;
+      some = a .some;
+      few = a .few;
+      modulus = a .modulus;
+      arrivals = field-zero (eqb (i .kind) 1) (i .n + 1) (λ _. omega arith);
+      sense = by-test (λ b. b ≡ true) (eqb (i .kind) 1) (λ k. rw k) (λ k. rw k);
+      parents = fresh-parents i a;
+      tasks = λ q h. subst (TaskRange (freshState i) q) (sym (fresh-at (i .n) q h)) (fresh-range (freshState i) q (a .some) (a .modulus));
+      rest = λ q m l. rw (zero-at (i .n) q m l);
+    })
+
+-- an accepted call gives the fresh state, a refused one the all-zero state
+pub fresh-accepted : (i : Inputs) → freshReason i ≡ 0 → freshOf i .state ≡ freshState i
+unfolding freshOf
+fresh-accepted i e = rw (eq-eqb (freshReason i) 0 e)
+
+pub fresh-refused : (i : Inputs) → freshReason i ≢ 0 → freshOf i .state ≡ zeroState
+unfolding freshOf
+fresh-refused i ne = rw (ne-eqb (freshReason i) 0 ne)

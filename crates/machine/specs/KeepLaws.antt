@@ -1,0 +1,278 @@
+-- Every turn keeps a state in range (01: "every turn keeps a state in range").
+use mathlib.Core.Path.{_≡_, sym, _∙_, subst}
+use mathlib.Core.Bool.{Bool, true, _||_, not}
+use mathlib.Core.List.{List}
+use mathlib.Core.Logic.{_≢_}
+use Prim.Native.Nat.{ℕ, _+_, _≤_, _<_}
+use native.Mathlib.Nat.{lt-of-not-le, mod-lt}
+use native.Mathlib.Decide.{ℕ-discrete}
+use native.Mathlib.Omega.{arith}
+use lib.Dec.{eqb, leb, ltb}
+use lib.ListN.{length, length-take}
+use borrow.Author.Tests.{ne-eqb, le-ltb, ltb-true, leb-false, eqb-false}
+use Rattle.bitset.specs.Choice.{pick}
+use Rattle.bitset.specs.Set.{bit, withinOf, allOf, leastOf, withoutOf}
+use Rattle.bitset.specs.SetLaws.{bit-zero, all-past, all-lt, within-self, without-within, least-within}
+use Rattle.parents.specs.Parents.{childrenOf}
+use Rattle.parents.specs.ParentsLaws.{children-bit, children-lt}
+use Rattle.machine.specs.declared.Task.{Task}
+use Rattle.machine.specs.declared.State.{State}
+use Rattle.machine.specs.declared.Effect.{Effect}
+use Rattle.machine.specs.declared.Move.the-variants.{Moved, Waited}
+use Rattle.machine.specs.declared.Outcome.{Outcome}
+use Rattle.machine.specs.declared.Outcome.the-variants.{Made, Refused}
+use Rattle.machine.specs.declared.Write.{Write}
+use Rattle.machine.specs.declared.Write.the-variants.{Nothing, Arrivals, Sense, Toggle, Flag}
+use Rattle.machine.specs.Setters.{taskAt, withTask, withTasks, withArrivals, withSense, withLine, withTag, withOld, withList, withToggle, withFlag}
+use Rattle.machine.specs.Range.{tableOf, lastLine, maxCount, fieldOk, listRoom, taskZero, Valid}
+use Rattle.machine.specs.Lines.{moves, awaits, work, raised, counts, choose, takeOff}
+use Rattle.machine.specs.Symmetric.{nextTag, symmetricLine}
+use Rattle.machine.specs.Increment.{negated, incrementLine}
+use Rattle.machine.specs.Ring.{nz, nextTask, ringLine}
+use Rattle.machine.specs.Tree.{treeLine}
+use Rattle.machine.specs.Turn.{effectOf, written, applied, stepOf, turnOf}
+use Rattle.machine.specs.TurnLaws.{by-test, by-turn, by-kind, by-symmetric, by-increment, by-ring, by-tree, step-state, put-same, put-other}
+use Rattle.machine.specs.RangeLaws.{TaskRange, InRange, range, valid, present, line-14, used, modulus-3}
+
+-- ---- storing keeps the range
+
+-- the range of a task speaks of no other task
+re-tasks : (s : State) (q : ℕ) (t : Task) (x : List Task) → TaskRange s q t → TaskRange (withTasks s x) q t
+re-tasks s q t x r = search
+
+keep-task : (s : State) (p : ℕ) (t : Task) → InRange s → p < s .n → TaskRange s p t → InRange (withTask s p t)
+keep-task s p t r h tr =
+    record {
+      kind = r .kind;
+      some = r .some;
+      few = r .few;
+      modulus = r .modulus;
+      arrivals = r .arrivals;
+      sense = r .sense;
+      parents = r .parents;
+      tasks = λ q l. re-tasks s q (taskAt (withTask s p t) q) _ (at q l (ℕ-discrete q p));
+      rest = λ q m l. subst (λ (x : Task). taskZero x ≡ true) (sym (put-other s p q t (omega arith))) (r .rest q m l);
+    }
+  where
+    at : (q : ℕ) → q < s .n → Dec (q ≡ p) → TaskRange s q (taskAt (withTask s p t) q)
+    at q l (yes e) =
+        subst (λ (x : ℕ). TaskRange s x (taskAt (withTask s p t) x)) (sym e)
+        (subst (TaskRange s p) (sym (put-same s p t (present s p (r .tasks p h .line-from)))) tr)
+    at q l (no ne) = subst (TaskRange s q) (sym (put-other s p q t ne)) (r .tasks q l)
+
+-- what a line may write besides its own task
+abbrev WriteOk : State → Write → Type 0
+WriteOk s Nothing = Unit {0}
+WriteOk s (Arrivals x) = fieldOk (eqb (s .kind) 1) (s .n + 1) x ≡ true
+WriteOk s (Sense x) = fieldOk (eqb (s .kind) 1) 2 x ≡ true
+WriteOk s (Toggle q x) = (q < s .n) × (fieldOk (eqb (s .kind) 2) 2 x ≡ true)
+WriteOk s (Flag q x) = (q < s .n) × (fieldOk (eqb (s .kind) 3) 2 x ≡ true)
+
+re-toggle : (s : State) (q : ℕ) (t : Task) (x : ℕ) → TaskRange s q t → fieldOk (eqb (s .kind) 2) 2 x ≡ true → TaskRange s q (withToggle t x)
+re-toggle s q t x r h = search
+
+re-flag : (s : State) (q : ℕ) (t : Task) (x : ℕ) → TaskRange s q t → fieldOk (eqb (s .kind) 3) 2 x ≡ true → TaskRange s q (withFlag t x)
+re-flag s q t x r h = search
+
+re-arrivals : (s : State) (q : ℕ) (t : Task) (x : ℕ) → TaskRange s q t → TaskRange (withArrivals s x) q t
+re-arrivals s q t x r = search
+
+re-sense : (s : State) (q : ℕ) (t : Task) (x : ℕ) → TaskRange s q t → TaskRange (withSense s x) q t
+re-sense s q t x r = search
+
+keep-written : (w : Write) (s : State) → InRange s → WriteOk s w → InRange (written w s)
+keep-written Nothing s r ok = r
+keep-written (Arrivals x) s r ok =
+    record {
+      kind = r .kind;
+      some = r .some;
+      few = r .few;
+      modulus = r .modulus;
+      arrivals = ok;
+      sense = r .sense;
+      parents = r .parents;
+      tasks = λ q l. re-arrivals s q (taskAt s q) x (r .tasks q l);
+      rest = r .rest;
+    }
+keep-written (Sense x) s r ok =
+    record {
+      kind = r .kind;
+      some = r .some;
+      few = r .few;
+      modulus = r .modulus;
+      arrivals = r .arrivals;
+      sense = ok;
+      parents = r .parents;
+      tasks = λ q l. re-sense s q (taskAt s q) x (r .tasks q l);
+      rest = r .rest;
+    }
+keep-written (Toggle q x) s r ok = keep-task s q _ r (ok .0) (re-toggle s q (taskAt s q) x (r .tasks q (ok .0)) (ok .1))
+keep-written (Flag q x) s r ok = keep-task s q _ r (ok .0) (re-flag s q (taskAt s q) x (r .tasks q (ok .0)) (ok .1))
+
+-- ---- every line keeps the range
+
+-- what a move leaves is in range; a wait and a refusal leave nothing
+abbrev Good : State → ℕ → Outcome → Task → Write → Type 0
+Good s p (Made Moved) t w = TaskRange s p t × WriteOk s w
+Good s p (Made Waited) t w = Unit {0}
+Good s p (Refused k) t w = Unit {0}
+
+abbrev GoodEffect : State → ℕ → Effect → Type 0
+GoodEffect s p e = Good s p (e .outcome) (e .task) (e .write)
+
+-- no list holds a task of N or more
+room-past : (s : State) (q j : ℕ) → InRange s → s .n ≤ j → bit (listRoom s q) j ≡ 0
+room-past s q j r h =
+    by-test (λ x. bit x j ≡ 0) (eqb (s .kind) 0) (λ _. all-past (s .n) j h)
+    (λ _. by-test (λ x. bit x j ≡ 0) (eqb (s .kind) 3)
+    (λ _. children-bit (tableOf s) q (length (tableOf s)) j (omega (arith, short, r .few)) ∙ rw (le-ltb j (length (tableOf s)) (omega (arith, short))))
+    (λ _. bit-zero j))
+  where
+    short : length (tableOf s) ≤ s .n
+    short = omega (arith, length-take (s .n) (s .parents))
+
+module _ (s : State) (p : ℕ) (r : InRange s) (h : p < s .n) where
+  tr : TaskRange s p (taskAt s p)
+  tr = r .tasks p h
+
+  -- the least task on a list is a task
+  least-known : taskAt s p .list ≢ 0 → leastOf (taskAt s p .list) < s .n
+  least-known ne = lt-of-not-le (λ l. absurd (omega (arith, room-past s p (leastOf (taskAt s p .list)) r l, least-within (taskAt s p .list) (listRoom s p) (tr .list) ne)))
+
+  -- the line alone
+  to-line : (l : ℕ) → 11 ≤ l → l ≤ lastLine (s .kind) → TaskRange s p (withLine (taskAt s p) l)
+  to-line l a b = let r = tr in search
+
+  good-work : GoodEffect s p (work (taskAt s p))
+  good-work = (to-line 12 (omega arith) (omega (arith, line-14 (s .kind))), tt)
+
+  good-choose : (exit : ℕ) → 11 ≤ exit → exit ≤ lastLine (s .kind) → eqb (s .kind) 0 || eqb (s .kind) 3 ≡ true
+      → GoodEffect s p (choose exit (leastOf (taskAt s p .list)) (taskAt s p))
+  good-choose exit a b u =
+      by-test (GoodEffect s p) (eqb (taskAt s p .list) 0) (λ e. (to-line exit a b, tt))
+      (λ e.
+      let l14 = line-14 (s .kind) in
+      let l = used (eqb (s .kind) 0 || eqb (s .kind) 3) (s .n) (leastOf (taskAt s p .list)) u (least-known (eqb-false (taskAt s p .list) 0 e)) in
+      let o = tr in
+      (search arith, tt))
+
+  good-take-off : GoodEffect s p (takeOff (taskAt s p))
+  good-take-off =
+      let l14 = line-14 (s .kind) in
+      let w = without-within 64 (taskAt s p .list) (listRoom s p) (taskAt s p .looked) (tr .list) in
+      let o = tr in
+      (search arith, tt)
+
+  -- the count rises only below its limit
+  good-counts : (e : Effect) → (taskAt s p .count < maxCount → GoodEffect s p e) → GoodEffect s p (counts (taskAt s p) e)
+  good-counts e f = by-test (GoodEffect s p) (ltb (taskAt s p .count) maxCount) (λ l. f (ltb-true (taskAt s p .count) maxCount l)) (λ l. tt)
+
+  good-awaits : (b : Bool) (e : Effect) → GoodEffect s p e → GoodEffect s p (awaits b (taskAt s p) e)
+  good-awaits b e g = by-test (GoodEffect s p) b (λ _. g) (λ _. tt)
+
+  good-symmetric : s .kind ≡ 0 → (tag : ℕ) → GoodEffect s p (symmetricLine (taskAt s p .line) (s .n) (s .modulus) tag (taskAt s p))
+  good-symmetric k tag =
+      by-symmetric (GoodEffect s p) (taskAt s p .line) (taskAt s p) tt (λ _. good-work) (s .n) (s .modulus) tag
+      (λ _. good-counts _ line-12)
+      (λ _. good-choose 11 (omega arith) (omega (arith, line-14 (s .kind))) (rw k))
+      (λ _. good-awaits (not (eqb tag (taskAt s p .old))) (takeOff (taskAt s p)) good-take-off)
+    where
+      line-12 : taskAt s p .count < maxCount → GoodEffect s p (moves (withLine (withList (raised (withTag (withOld (taskAt s p) (taskAt s p .tag)) (nextTag (s .modulus) (taskAt s p .tag)))) (allOf (s .n))) 13) Nothing)
+      line-12 low =
+          let l14 = line-14 (s .kind) in
+          let three = modulus-3 (s .modulus) (rw k at (r .modulus)) in
+          let next : nextTag (s .modulus) (taskAt s p .tag) < s .modulus
+          = rw (ne-eqb (s .modulus) 0 (omega arith)) (mod-lt (taskAt s p .tag + 1) (omega arith)) in
+          let g = used (eqb (s .kind) 0) (s .modulus) (nextTag (s .modulus) (taskAt s p .tag)) (rw k) next in
+          let w : withinOf (allOf (s .n)) (listRoom s p) ≡ true = rw k (within-self 64 (allOf (s .n)) (all-lt (s .n))) in
+          let o = tr in
+          (search arith, tt)
+
+  good-increment : s .kind ≡ 1 → GoodEffect s p (incrementLine (taskAt s p .line) (s .n) (s .arrivals) (s .sense) (taskAt s p))
+  good-increment k =
+      by-increment (GoodEffect s p) (taskAt s p .line) (taskAt s p) tt (λ _. good-work) (s .n) (s .arrivals) (s .sense)
+      (λ _. let a = used (eqb (s .kind) 1) 2 (negated (s .sense)) (rw k) aimed in let o = tr in let l = l16 in (search arith, tt))
+      (λ _. by-test (GoodEffect s p) (leb (s .n) (s .arrivals)) (λ _. tt) (λ few. good-counts (moves (withLine (raised (taskAt s p)) (pick (eqb (s .arrivals + 1) (s .n)) 14 16)) (Arrivals (s .arrivals + 1))) (λ low. (line-13 low, used (eqb (s .kind) 1) (s .n + 1) (s .arrivals + 1) (rw k) (omega (arith, leb-false (s .n) (s .arrivals) few))))))
+      (λ _. (to-line 15 (omega arith) (omega (arith, l16)), used (eqb (s .kind) 1) (s .n + 1) 0 (rw k) (omega arith)))
+      (λ _. (to-line 11 (omega arith) (omega (arith, l16)), tr .aim))
+      (λ _. good-awaits (eqb (s .sense) (taskAt s p .aim)) (moves (withLine (taskAt s p) 11) Nothing) (to-line 11 (omega arith) (omega (arith, l16)), tt))
+    where
+      l16 : lastLine (s .kind) ≡ 16
+      l16 = rw k
+
+      aimed : negated (s .sense) < 2
+      aimed = by-test (λ x. x < 2) (eqb (s .sense) 0) (λ _. omega arith) (λ _. omega arith)
+
+      line-13 : taskAt s p .count < maxCount → TaskRange s p (withLine (raised (taskAt s p)) (pick (eqb (s .arrivals + 1) (s .n)) 14 16))
+      line-13 low = by-test (λ l. TaskRange s p (withLine (raised (taskAt s p)) l)) (eqb (s .arrivals + 1) (s .n)) (λ _. up 14 (omega arith) (omega (arith, l16))) (λ _. up 16 (omega arith) (omega (arith, l16)))
+        where
+          up : (l : ℕ) → 11 ≤ l → l ≤ lastLine (s .kind) → TaskRange s p (withLine (raised (taskAt s p)) l)
+          up l a b = let o = tr in search arith
+
+  good-ring : s .kind ≡ 2 → GoodEffect s p (ringLine (taskAt s p .line) (s .n) p (taskAt s p))
+  good-ring k =
+      by-ring (GoodEffect s p) (taskAt s p .line) (taskAt s p) tt (λ _. good-work) (s .n) p
+      (λ _. good-awaits (eqb (taskAt s p .toggle) (nz p)) (moves (withLine (taskAt s p) 13) Nothing) (to-line 13 (omega arith) (omega (arith, l15)), tt))
+      (λ _. good-counts (moves (withLine (raised (taskAt s p)) 14) (Toggle (nextTask (s .n) p) 1)) (λ low. (let o = tr in let l = l15 in search arith, (next, used (eqb (s .kind) 2) 2 1 (rw k) (omega arith)))))
+      (λ _. good-awaits (not (eqb (taskAt s p .toggle) (nz p))) (moves (withLine (taskAt s p) 15) Nothing) (to-line 15 (omega arith) (omega (arith, l15)), tt))
+      (λ _. (to-line 11 (omega arith) (omega (arith, l15)), (next, used (eqb (s .kind) 2) 2 0 (rw k) (omega arith))))
+    where
+      l15 : lastLine (s .kind) ≡ 15
+      l15 = rw k
+
+      next : nextTask (s .n) p < s .n
+      next = by-test (λ x. x < s .n) (ltb (p + 1) (s .n)) (λ l. ltb-true (p + 1) (s .n) l) (λ l. omega arith)
+
+  good-tree : s .kind ≡ 3 → (flag : ℕ) → GoodEffect s p (treeLine (taskAt s p .line) (tableOf s) p flag (taskAt s p))
+  good-tree k flag =
+      by-tree (GoodEffect s p) (taskAt s p .line) (taskAt s p) tt (λ _. good-work) (tableOf s) p flag
+      (λ _. (listed 13 (omega arith) (omega (arith, l18)), tt))
+      (λ _. good-choose 15 (omega arith) (omega (arith, l18)) (rw k))
+      (λ _. good-awaits (eqb flag 1) (takeOff (taskAt s p)) good-take-off)
+      (λ _. good-counts (moves (withLine (raised (withFlag (taskAt s p) (pick (eqb p 0) (taskAt s p .flag) 1))) 16) Nothing) (λ low. (let o = tr in let l = l18 in let f = flagged in search arith, tt)))
+      (λ _. good-awaits (eqb p 0 || eqb (taskAt s p .flag) 0) (moves (withLine (taskAt s p) 17) Nothing) (to-line 17 (omega arith) (omega (arith, l18)), tt))
+      (λ _. (listed 18 (omega arith) (omega (arith, l18)), tt))
+      (λ _. by-test (GoodEffect s p) (eqb (taskAt s p .list) 0) (λ _. (to-line 11 (omega arith) (omega (arith, l18)), tt))
+      (λ e. (cleared, (least-known (eqb-false (taskAt s p .list) 0 e), used (eqb (s .kind) 3) 2 0 (rw k) (omega arith)))))
+    where
+      l18 : lastLine (s .kind) ≡ 18
+      l18 = rw k
+
+      listed : (l : ℕ) → 11 ≤ l → l ≤ lastLine (s .kind) → TaskRange s p (withLine (withList (taskAt s p) (childrenOf (tableOf s) p)) l)
+      listed l a b =
+          let w : withinOf (childrenOf (tableOf s) p) (listRoom s p) ≡ true
+          = rw k (within-self 64 (childrenOf (tableOf s) p) (children-lt (tableOf s) p (length (tableOf s)))) in
+          let o = tr in
+          search arith
+
+      flagged : fieldOk (eqb (s .kind) 3) 2 (pick (eqb p 0) (taskAt s p .flag) 1) ≡ true
+      flagged = by-test (λ x. fieldOk (eqb (s .kind) 3) 2 x ≡ true) (eqb p 0) (λ _. tr .flag) (λ _. used (eqb (s .kind) 3) 2 1 (rw k) (omega arith))
+
+      cleared : TaskRange s p (withList (taskAt s p) (withoutOf (taskAt s p .list) (leastOf (taskAt s p .list))))
+      cleared =
+          let w = without-within 64 (taskAt s p .list) (listRoom s p) (leastOf (taskAt s p .list)) (tr .list) in
+          let o = tr in
+          search arith
+
+  good-effect : GoodEffect s p (effectOf s p)
+  good-effect =
+      by-kind (GoodEffect s p) s p (r .kind) (λ k. good-symmetric k _) good-increment good-ring (λ k. good-tree k _)
+
+-- ---- the law
+
+keep-applied : (o : Outcome) (s : State) (p : ℕ) (t : Task) (w : Write) → InRange s → p < s .n → Good s p o t w → InRange (applied o s p t w)
+keep-applied (Made Moved) s p t w r h g = keep-written w (withTask s p t) (keep-task s p t r h (g .0)) (write-ok w (g .1))
+  where
+    write-ok : (w : Write) → WriteOk s w → WriteOk (withTask s p t) w
+    write-ok Nothing ok = ok
+    write-ok (Arrivals x) ok = ok
+    write-ok (Sense x) ok = ok
+    write-ok (Toggle q x) ok = ok
+    write-ok (Flag q x) ok = ok
+keep-applied (Made Waited) s p t w r h g = r
+keep-applied (Refused k) s p t w r h g = r
+
+pub turn-valid : (s : State) (p : ℕ) → Valid s → Valid (turnOf s p .state)
+turn-valid s p ok =
+    by-turn (λ r. Valid (r .state)) s p (λ k. ok)
+    (λ ok h. valid (stepOf s p .state) (subst InRange (sym (step-state s p)) (keep-applied (effectOf s p .outcome) s p (effectOf s p .task) (effectOf s p .write) (range s ok) h (good-effect s p (range s ok) h))))

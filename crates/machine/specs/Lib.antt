@@ -1,0 +1,19 @@
+-- The definitions of the machine, in the order of document 01; then their laws.
+pub mod Setters
+pub mod Fresh
+pub mod Range
+pub mod Lines
+pub mod Symmetric
+pub mod Increment
+pub mod Ring
+pub mod Tree
+pub mod Turn
+pub mod Ready
+pub mod Least
+pub mod TurnLaws
+pub mod RangeLaws
+pub mod KeepLaws
+pub mod LeastLaws
+pub mod FreshLaws
+pub mod CountLaws
+pub mod Cases

@@ -1,0 +1,87 @@
+-- The range of a state (01, "Field ranges"), which reason 7 refuses to leave.
+use mathlib.Core.Path.{_≡_}
+use mathlib.Core.Bool.{Bool, true, _&&_, _||_}
+use mathlib.Core.List.{List, [], _∷_}
+use Prim.Native.Nat.{ℕ, zero, suc, _+_}
+use lib.Dec.{eqb, leb, ltb}
+use lib.ListN.{take, drop}
+use Rattle.bitset.specs.Choice.{pick}
+use Rattle.bitset.specs.Tasks.{isCount}
+use Rattle.bitset.specs.Set.{allOf, withinOf}
+use Rattle.parents.specs.Parents.{checkOf, childrenOf}
+use Rattle.machine.specs.declared.Task.{Task}
+use Rattle.machine.specs.declared.State.{State}
+use Rattle.machine.specs.Setters.{taskAt}
+use Rattle.machine.specs.Fresh.{isKind, modulusOk}
+
+-- "A table of N bytes gives each task's parent": the first N entries
+abbrev pub tableOf : State → List ℕ
+tableOf s = take (s .n) (s .parents)
+
+-- "Lines: from 11 to 14 for kind 0, 16 for kind 1, 15 for kind 2, 18 for kind 3."
+abbrev pub lastLine : ℕ → ℕ
+lastLine kind = pick (eqb kind 0) 14 (pick (eqb kind 1) 16 (pick (eqb kind 2) 15 18))
+
+-- "Count: 0 to 1,000,000."
+abbrev pub maxCount : ℕ
+maxCount = 1000000
+
+-- a field that the kind uses is below its bound; "every field the kind doesn't use .. is 0"
+abbrev pub fieldOk : Bool → ℕ → ℕ → Bool
+fieldOk used bound x = pick used (ltb x bound) (eqb x 0)
+
+-- "List within the N tasks (symmetric) or within own children (tree)": what the list of task q may hold
+abbrev pub listRoom : State → ℕ → ℕ
+listRoom s q = pick (eqb (s .kind) 0) (allOf (s .n)) (pick (eqb (s .kind) 3) (childrenOf (tableOf s) q) 0)
+
+-- "Tag and old below R. Looked-at below N. .. aim, toggle and flag 0 or 1." The task t at q:
+unfoldable pub taskOk : State → ℕ → Task → Bool
+taskOk s q t =
+    leb 11 (t .line) && leb (t .line) (lastLine (s .kind))
+    && leb (t .count) maxCount
+    && fieldOk (eqb (s .kind) 0) (s .modulus) (t .tag)
+    && fieldOk (eqb (s .kind) 0) (s .modulus) (t .old)
+    && fieldOk (eqb (s .kind) 0 || eqb (s .kind) 3) (s .n) (t .looked)
+    && withinOf (t .list) (listRoom s q)
+    && fieldOk (eqb (s .kind) 1) 2 (t .aim)
+    && fieldOk (eqb (s .kind) 2) 2 (t .toggle)
+    && fieldOk (eqb (s .kind) 3) 2 (t .flag)
+
+-- "every field of a task from N on, is 0"
+unfoldable pub taskZero : Task → Bool
+taskZero t =
+    eqb (t .line) 0 && eqb (t .count) 0 && eqb (t .tag) 0 && eqb (t .old) 0 && eqb (t .list) 0 && eqb (t .looked) 0
+    && eqb (t .aim) 0 && eqb (t .toggle) 0 && eqb (t .flag) 0
+
+-- the tasks below m: those of 0 to N − 1 are in range, the others all zero
+unfoldable pub tasksOk : State → ℕ → Bool
+tasksOk s zero = true
+tasksOk s (suc q) = tasksOk s q && pick (ltb q (s .n)) (taskOk s q (taskAt s q)) (taskZero (taskAt s q))
+
+unfoldable pub allZero : List ℕ → Bool
+allZero [] = true
+allZero (x ∷ xs) = eqb x 0 && allZero xs
+
+-- "R and parents as above": for a tree the first N entries are a table that its check accepts, and all others are 0
+abbrev pub parentsOk : State → Bool
+parentsOk s =
+    pick (eqb (s .kind) 3)
+    (eqb (checkOf (tableOf s) (s .n)) 0 && allZero (drop (s .n) (s .parents)))
+    (allZero (s .parents))
+
+-- "Kind and N as above. .. Arrivals 0 to N. Sense .. 0 or 1."
+unfoldable pub stateOk : State → Bool
+stateOk s =
+    isKind (s .kind) && isCount (s .n) && modulusOk (s .kind) (s .modulus)
+    && fieldOk (eqb (s .kind) 1) (s .n + 1) (s .arrivals)
+    && fieldOk (eqb (s .kind) 1) 2 (s .sense)
+    && parentsOk s
+    && tasksOk s 64
+
+-- the reason that refuses a state: 7, "a field of the state is out of range", or 0
+unfoldable pub checkState : State → ℕ
+checkState s = pick (stateOk s) 0 7
+
+-- a state that no call refuses
+abbrev pub Valid : State → Type 0
+Valid s = checkState s ≡ 0

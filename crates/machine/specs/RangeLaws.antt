@@ -1,0 +1,167 @@
+-- The range of a state, clause by clause: what a valid state has, and that fresh states and turns keep it.
+use mathlib.Core.Path.{_≡_, refl, sym, ap, subst}
+use mathlib.Core.Bool.{Bool, true, false, _||_, and-eq-true-iff}
+use mathlib.Core.Logic.{_⊎_, inl, inr}
+use Prim.Native.Nat.{ℕ, zero, suc, _+_, _≤_, _<_}
+use native.Mathlib.Nat.{eq-or-lt-of-le, le-of-suc-le-suc, lt-of-not-le}
+use native.Mathlib.Omega.{arith}
+use lib.Dec.{eqb, leb, ltb}
+use lib.ListN.{length, List·getD-eq-default}
+use borrow.Author.Tests.{lt-ltb, le-ltb, le-leb, ltb-true, ltb-false, leb-true}
+use Rattle.bitset.specs.Choice.{pick}
+use Rattle.bitset.specs.Set.{withinOf}
+use Rattle.bitset.specs.SetLaws.{is-count}
+use Rattle.machine.specs.declared.Task.{Task}
+use Rattle.machine.specs.declared.State.{State}
+use Rattle.machine.specs.Setters.{zeroTask, taskAt}
+use Rattle.machine.specs.Fresh.{modulusOk}
+use Rattle.machine.specs.TurnLaws.{by-test}
+use Rattle.machine.specs.Range.{lastLine, maxCount, fieldOk, listRoom, taskOk, taskZero, tasksOk, parentsOk, stateOk, checkState, Valid}
+
+-- ---- clause by clause
+
+-- what taskOk tests
+pub record TaskRange (s : State) (q : ℕ) (t : Task) : Type 0 where
+  pub line-from : 11 ≤ t .line
+  pub line-to : t .line ≤ lastLine (s .kind)
+  pub count : t .count ≤ maxCount
+  pub tag : fieldOk (eqb (s .kind) 0) (s .modulus) (t .tag) ≡ true
+  pub old : fieldOk (eqb (s .kind) 0) (s .modulus) (t .old) ≡ true
+  pub looked : fieldOk (eqb (s .kind) 0 || eqb (s .kind) 3) (s .n) (t .looked) ≡ true
+  pub list : withinOf (t .list) (listRoom s q) ≡ true
+  pub aim : fieldOk (eqb (s .kind) 1) 2 (t .aim) ≡ true
+  pub toggle : fieldOk (eqb (s .kind) 2) 2 (t .toggle) ≡ true
+  pub flag : fieldOk (eqb (s .kind) 3) 2 (t .flag) ≡ true
+
+-- what stateOk tests
+pub record InRange (s : State) : Type 0 where
+  pub kind : s .kind ≤ 3
+  pub some : 1 ≤ s .n
+  pub few : s .n ≤ 64
+  pub modulus : modulusOk (s .kind) (s .modulus) ≡ true
+  pub arrivals : fieldOk (eqb (s .kind) 1) (s .n + 1) (s .arrivals) ≡ true
+  pub sense : fieldOk (eqb (s .kind) 1) 2 (s .sense) ≡ true
+  pub parents : parentsOk s ≡ true
+  pub tasks : (q : ℕ) → q < s .n → TaskRange s q (taskAt s q)
+  pub rest : (q : ℕ) → s .n ≤ q → q < 64 → taskZero (taskAt s q) ≡ true
+
+task-range : (s : State) (q : ℕ) (t : Task) → taskOk s q t ≡ true → TaskRange s q t
+unfolding taskOk
+task-range s q t e =
+    let e9 = and-eq-true-iff _ _ .0 e in
+    let e8 = and-eq-true-iff _ _ .0 (e9 .0) in
+    let e7 = and-eq-true-iff _ _ .0 (e8 .0) in
+    let e6 = and-eq-true-iff _ _ .0 (e7 .0) in
+    let e5 = and-eq-true-iff _ _ .0 (e6 .0) in
+    let e4 = and-eq-true-iff _ _ .0 (e5 .0) in
+    let e3 = and-eq-true-iff _ _ .0 (e4 .0) in
+    let e2 = and-eq-true-iff _ _ .0 (e3 .0) in
+    let e1 = and-eq-true-iff _ _ .0 (e2 .0) in
+    record {
+      line-from = leb-true 11 (t .line) (e1 .0);
+      line-to = leb-true (t .line) (lastLine (s .kind)) (e1 .1);
+      count = leb-true (t .count) maxCount (e2 .1);
+      tag = e3 .1;
+      old = e4 .1;
+      looked = e5 .1;
+      list = e6 .1;
+      aim = e7 .1;
+      toggle = e8 .1;
+      flag = e9 .1;
+    }
+
+range-task : (s : State) (q : ℕ) (t : Task) → TaskRange s q t → taskOk s q t ≡ true
+unfolding taskOk
+range-task s q t r =
+    rw (
+      le-leb 11 (t .line) (r .line-from),
+      le-leb (t .line) (lastLine (s .kind)) (r .line-to),
+      le-leb (t .count) maxCount (r .count),
+      r .tag,
+      r .old,
+      r .looked,
+      r .list,
+      r .aim,
+      r .toggle,
+      r .flag,
+    )
+
+tasks-at : (s : State) (m q : ℕ) → tasksOk s m ≡ true → q < m → pick (ltb q (s .n)) (taskOk s q (taskAt s q)) (taskZero (taskAt s q)) ≡ true
+unfolding tasksOk
+tasks-at s zero q e h = absurd (omega arith)
+tasks-at s (suc m) q e h = go (eq-or-lt-of-le (le-of-suc-le-suc h)) (and-eq-true-iff _ _ .0 e) (tasks-at s m q)
+  where
+    at : ℕ → Bool
+    at r = pick (ltb r (s .n)) (taskOk s r (taskAt s r)) (taskZero (taskAt s r))
+
+    go : (q ≡ m) ⊎ (q < m) → (tasksOk s m ≡ true) × (at m ≡ true) → (tasksOk s m ≡ true → q < m → at q ≡ true) → at q ≡ true
+    go (inl e) both ih = subst (λ (r : ℕ). at r ≡ true) (sym e) (both .1)
+    go (inr l) both ih = ih (both .0) l
+
+tasks-all : (s : State) (m : ℕ) → ((q : ℕ) → q < m → pick (ltb q (s .n)) (taskOk s q (taskAt s q)) (taskZero (taskAt s q)) ≡ true) → tasksOk s m ≡ true
+unfolding tasksOk
+tasks-all s zero f = refl
+tasks-all s (suc m) f = and-eq-true-iff _ _ .1 (tasks-all s m (λ q h. f q (omega arith)), f m (omega arith))
+
+-- a valid state is in range, clause by clause, and the other way round
+pub range : (s : State) → Valid s → InRange s
+unfolding checkState stateOk
+range s e = go (stateOk s) refl e
+  where
+    go : (b : Bool) → stateOk s ≡ b → _≡_ {A = ℕ} (pick b 0 7) 0 → InRange s
+    go false _ z = absurd (omega arith)
+    go true ok z =
+        let e6 = and-eq-true-iff _ _ .0 ok in
+        let e5 = and-eq-true-iff _ _ .0 (e6 .0) in
+        let e4 = and-eq-true-iff _ _ .0 (e5 .0) in
+        let e3 = and-eq-true-iff _ _ .0 (e4 .0) in
+        let e2 = and-eq-true-iff _ _ .0 (e3 .0) in
+        let e1 = and-eq-true-iff _ _ .0 (e2 .0) in
+        let n = is-count (s .n) (e1 .1) in
+        record {
+          kind = leb-true (s .kind) 3 (e1 .0);
+          some = n .0;
+          few = n .1;
+          modulus = e2 .1;
+          arrivals = e3 .1;
+          sense = e4 .1;
+          parents = e5 .1;
+          tasks = λ q h. task-range s q (taskAt s q) (rw (lt-ltb q (s .n) h) at (tasks-at s 64 q (e6 .1) (omega arith)));
+          rest = λ q h l. rw (le-ltb q (s .n) h) at (tasks-at s 64 q (e6 .1) l);
+        }
+
+pub valid : (s : State) → InRange s → Valid s
+unfolding checkState stateOk
+valid s r =
+    rw (
+      le-leb (s .kind) 3 (r .kind),
+      le-leb 1 (s .n) (r .some),
+      le-leb (s .n) 64 (r .few),
+      r .modulus,
+      r .arrivals,
+      r .sense,
+      r .parents,
+      tasks-all s 64 (λ q h. by-test (λ b. b ≡ true) (ltb q (s .n)) (λ l. range-task s q (taskAt s q) (r .tasks q (ltb-true q (s .n) l))) (λ l. r .rest q (ltb-false q (s .n) l) h)),
+    )
+
+-- a task of 0 to N − 1 stands in the list of tasks: its line is not 0
+pub present : (s : State) (q : ℕ) → 11 ≤ taskAt s q .line → q < length (s .tasks)
+present s q h = lt-of-not-le (λ l. absurd (omega (arith, ap (λ (t : Task). t .line) (List·getD-eq-default (s .tasks) zeroTask {n = q} l))))
+
+-- every barrier has the lines 11 to 14
+pub line-14 : (kind : ℕ) → 14 ≤ lastLine kind
+line-14 kind =
+    by-test (λ x. 14 ≤ x) (eqb kind 0) (λ _. omega arith)
+    (λ _. by-test (λ x. 14 ≤ x) (eqb kind 1) (λ _. omega arith)
+    (λ _. by-test (λ x. 14 ≤ x) (eqb kind 2) (λ _. omega arith) (λ _. omega arith)))
+
+-- a field that the kind uses is in range below its bound, and has it
+pub used : (u : Bool) (bound x : ℕ) → u ≡ true → x < bound → fieldOk u bound x ≡ true
+used u bound x e h = rw (e, lt-ltb x bound h)
+
+pub below : (u : Bool) (bound x : ℕ) → u ≡ true → fieldOk u bound x ≡ true → x < bound
+below u bound x e h = ltb-true x bound (rw e at h)
+
+-- R is 3 or more for the symmetric kind
+pub modulus-3 : (r : ℕ) → modulusOk 0 r ≡ true → 3 ≤ r
+modulus-3 r e = leb-true 3 r (and-eq-true-iff (leb 3 r) (leb r 255) .0 e .0)

@@ -1,0 +1,79 @@
+-- A turn (01, "The state and a turn"): which rule applies, what it does to the state, and the refusals.
+use mathlib.Core.Bool.{Bool, true, false}
+use Prim.Native.Nat.{ℕ}
+use lib.Dec.{eqb, ltb}
+use Rattle.bitset.specs.Choice.{pick}
+use Rattle.machine.specs.declared.Task.{Task}
+use Rattle.machine.specs.declared.State.{State}
+use Rattle.machine.specs.declared.Effect.{Effect}
+use Rattle.machine.specs.declared.Move.{Move}
+use Rattle.machine.specs.declared.Move.the-variants.{Moved, Waited}
+use Rattle.machine.specs.declared.Outcome.{Outcome}
+use Rattle.machine.specs.declared.Outcome.the-variants.{Made, Refused}
+use Rattle.machine.specs.declared.Write.{Write}
+use Rattle.machine.specs.declared.Write.the-variants.{Nothing, Arrivals, Sense, Toggle, Flag}
+use Rattle.machine.specs.declared.Turned.{Turned}
+use Rattle.machine.specs.Setters.{taskAt, withTask, withArrivals, withSense, withToggle, withFlag}
+use Rattle.machine.specs.Range.{tableOf, checkState}
+use Rattle.machine.specs.Symmetric.{symmetricLine}
+use Rattle.machine.specs.Increment.{incrementLine}
+use Rattle.machine.specs.Ring.{ringLine}
+use Rattle.machine.specs.Tree.{treeLine}
+
+-- "Which rule applies is decided by the kind and the line number." What the line of the task t, which is p, does:
+abbrev pub effectBy : State → ℕ → Task → Effect
+effectBy s p t =
+    pick (eqb (s .kind) 0) (symmetricLine (t .line) (s .n) (s .modulus) (taskAt s (t .looked) .tag) t)
+    (pick (eqb (s .kind) 1) (incrementLine (t .line) (s .n) (s .arrivals) (s .sense) t)
+    (pick (eqb (s .kind) 2) (ringLine (t .line) (s .n) p t)
+    (treeLine (t .line) (tableOf s) p (taskAt s (t .looked) .flag) t)))
+
+unfoldable pub effectOf : State → ℕ → Effect
+effectOf s p = effectBy s p (taskAt s p)
+
+-- the state with a shared word written
+abbrev pub written : Write → State → State
+written Nothing s = s
+written (Arrivals x) s = withArrivals s x
+written (Sense x) s = withSense s x
+written (Toggle q x) s = withTask s q (withToggle (taskAt s q) x)
+written (Flag q x) s = withTask s q (withFlag (taskAt s q) x)
+
+-- what the outcome makes of the state: a move writes the own task, then the shared word; "a turn that waits changes nothing"
+abbrev pub applied : Outcome → State → ℕ → Task → Write → State
+applied (Made Moved) s p t w = written w (withTask s p t)
+applied (Made Waited) s p t w = s
+applied (Refused k) s p t w = s
+
+-- one line of the task p, with the refusals of the line: 7 at 13 of kind 1, and 11
+unfoldable pub stepOf : State → ℕ → Turned
+unfolding effectOf
+stepOf s p =
+    let e = effectOf s p in
+    record { state = applied (e .outcome) s p (e .task) (e .write); outcome = e .outcome }
+
+-- a refused call "returns its number and the state it got"
+abbrev pub refusedTurn : State → ℕ → Turned
+refusedTurn s k = record { state = s; outcome = Refused k }
+
+-- "A turn 7, 9, 11", 9: "A task number is N or more"
+unfoldable pub turnOf : State → ℕ → Turned
+turnOf s p =
+    pick (eqb (checkState s) 0)
+    (pick (ltb p (s .n)) (stepOf s p) (refusedTurn s 9))
+    (refusedTurn s (checkState s))
+
+-- the paper's numbers of an answer: 1 moved, 0 waited; the reason of a refusal, else 0
+abbrev pub moveNumber : Move → ℕ
+moveNumber Moved = 1
+moveNumber Waited = 0
+
+abbrev pub reasonNumber : Outcome → ℕ
+reasonNumber (Made m) = 0
+reasonNumber (Refused k) = k
+
+-- whether the answer is moved
+abbrev pub isMoved : Outcome → Bool
+isMoved (Made Moved) = true
+isMoved (Made Waited) = false
+isMoved (Refused k) = false

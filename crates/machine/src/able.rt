@@ -1,0 +1,42 @@
+// Ready. specs/Ready.antt defines it.
+use crate::Readied;
+use crate::Ready;
+use crate::State;
+use crate::turn;
+ghost use mathlib.Core.Path.{_≡_};
+ghost use Rattle.machine.specs.Range.{Valid};
+ghost use Rattle.machine.specs.Ready as defs;
+
+impl State {
+    // The least task that can move, of a state in range.
+    fn able(self) -> Ready
+        ensures { λ r. ⌜ (Valid self → r ≡ defs.readyFrom self (self .n) 0) ⌝ }
+    {
+        let n = self.n as usize;
+        let mut q = 0;
+        while q < n {
+            if turn::is_moved(self.outcome(q)) {
+                return Ready::Task(q);
+            }
+            q += 1;
+        }
+        Ready::Nobody
+    }
+
+    // Who can move; the state is handed back as it was.
+    pub fn ready(self) -> Readied
+        ensures { λ r. ⌜ r ≡ defs.readyOf self ⌝ }
+    {
+        let reason = self.check();
+        if reason != 0 {
+            return Readied {
+                state: self,
+                ready: Ready::Refused(reason),
+            };
+        }
+        Readied {
+            state: self,
+            ready: self.able(),
+        }
+    }
+}

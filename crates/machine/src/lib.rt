@@ -1,0 +1,99 @@
+// The step machine of the four barriers: a fresh state, a turn, and who is ready. What each call answers is defined in
+// specs/, and the modules here follow its files: `initial` (Fresh), `range`, `lines`, the four barriers, `turn`, `able`
+// (Ready). Every function is total, and its contract is an equation with its definition.
+mod able;
+mod increment;
+mod initial;
+mod lines;
+mod range;
+mod ring;
+mod symmetric;
+mod tasks;
+mod tree;
+mod turn;
+
+// A task of the barrier. Which fields a kind uses is said in specs/Range.antt; the others are 0. The wide fields stand
+// first, so that a task takes 24 bytes and a state 1,608.
+pub struct Task {
+    pub list: u64,
+    pub count: u32,
+    pub line: u8,
+    pub tag: u8,
+    pub old: u8,
+    pub looked: u8,
+    pub aim: u8,
+    pub toggle: u8,
+    pub flag: u8,
+}
+
+// A barrier: its kind, its n tasks, the words that they share, and for a tree the table of parents. Tasks and parents
+// from n on are 0.
+pub struct State {
+    pub kind: u8,
+    pub n: u8,
+    pub modulus: u8,
+    pub arrivals: u8,
+    pub sense: u8,
+    pub parents: [u8; 64],
+    pub tasks: [Task; 64],
+}
+
+// What a turn that is not refused did.
+pub enum Move {
+    Moved,
+    Waited,
+}
+
+// What a turn answers: what it did, or the number of the reason that refused it.
+pub enum Outcome {
+    Made(Move),
+    Refused(u8),
+}
+
+// What a line writes besides its own task: nothing, or one shared word. A toggle and a flag name their task.
+pub enum Write {
+    Nothing,
+    Arrivals(u8),
+    Sense(u8),
+    Toggle(usize, u8),
+    Flag(usize, u8),
+}
+
+// What a line does: its answer, and for a move the task as it is then and what is written elsewhere.
+pub struct Effect {
+    pub outcome: Outcome,
+    pub task: Task,
+    pub write: Write,
+}
+
+// A turn's answer, with the state after it.
+pub struct Turned {
+    pub state: State,
+    pub outcome: Outcome,
+}
+
+// What a fresh state is made from, besides its tables. Numbers out of range are refused, so they must fit here.
+pub struct Setup {
+    pub kind: usize,
+    pub n: usize,
+    pub modulus: usize,
+}
+
+// A fresh state's answer: the state, and 0 or the reason it was refused.
+pub struct Fresh {
+    pub state: State,
+    pub reason: u8,
+}
+
+// Who can move: the least such task, or nobody; or the number of the reason that refused the state.
+pub enum Ready {
+    Task(usize),
+    Nobody,
+    Refused(u8),
+}
+
+// Ready's answer, with the state as it was.
+pub struct Readied {
+    pub state: State,
+    pub ready: Ready,
+}

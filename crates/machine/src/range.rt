@@ -1,0 +1,185 @@
+// The range of a state. specs/Range.antt defines each.
+use crate::State;
+use crate::Task;
+use crate::lines;
+use crate::tasks;
+use parents::Checked;
+ghost use mathlib.Core.Path.{_≡_};
+ghost use lib.Dec.{eqb, ltb};
+ghost use Rattle.bitset.specs.Choice.{pick};
+ghost use Rattle.parents.specs.Parents.{checkNumber};
+ghost use Rattle.machine.specs.Range as defs;
+ghost use Rattle.machine.specs.Fresh.{isKind, modulusOk};
+
+// Whether there is such a kind.
+pub(crate) fn is_kind(kind: usize) -> bool
+    ensures { λ r. ⌜ r ≡ isKind kind ⌝ }
+{
+    kind <= 3
+}
+
+// Whether the kind takes such a modulus.
+pub(crate) fn modulus_ok(kind: usize, modulus: usize) -> bool
+    ensures { λ r. ⌜ r ≡ modulusOk kind modulus ⌝ }
+{
+    if kind == 0 {
+        (3 <= modulus) & (modulus <= 255)
+    } else {
+        modulus == 0
+    }
+}
+
+// The last line of a kind.
+fn last_line(kind: u8) -> u8
+    ensures { λ r. ⌜ r ≡ defs.lastLine kind ⌝ }
+{
+    match kind {
+        0 => 14,
+        1 => 16,
+        2 => 15,
+        _ => 18,
+    }
+}
+
+// A field that the kind uses is below its bound; another is 0.
+fn field_ok(used: bool, bound: usize, x: u8) -> bool
+    ensures { λ r. ⌜ r ≡ defs.fieldOk used bound x ⌝ }
+{
+    if used { (x as usize) < bound } else { x == 0 }
+}
+
+// Whether every field of a task is 0.
+fn task_zero(task: Task) -> bool
+    ensures { λ r. ⌜ r ≡ defs.taskZero task ⌝ }
+{
+    (task.line == 0)
+        & (task.count == 0)
+        & (task.tag == 0)
+        & (task.old == 0)
+        & (task.list == 0)
+        & (task.looked == 0)
+        & (task.aim == 0)
+        & (task.toggle == 0)
+        & (task.flag == 0)
+}
+
+// Whether every byte is 0.
+fn all_zero(list: &[u8]) -> bool
+    ensures { λ r. ⌜ r ≡ defs.allZero (now (list .entry)) ⌝ }
+{
+    let mut ok = true;
+    let mut i = 0;
+    while i < list.len() {
+        ok = ok & (list[i] == 0);
+        i += 1;
+    }
+    ok
+}
+
+// Whether a table's check accepts it.
+fn accepted(checked: Checked) -> bool
+    ensures { λ r. ⌜ r ≡ eqb (checkNumber checked) 0 ⌝ }
+{
+    match checked {
+        Checked::Accepted => true,
+        Checked::WrongLength => false,
+        Checked::NotLower => false,
+    }
+}
+
+impl State {
+    // What the list of task q may hold.
+    fn list_room(self, q: usize) -> u64
+        ensures { λ r. ⌜ r ≡ defs.listRoom self q ⌝ }
+    {
+        let kind = self.kind;
+        match kind {
+            0 => bitset::all(self.n as usize),
+            3 => {
+                let parents = self.parents;
+                let length = tasks::table_length(self.n);
+                parents::children(&parents[..length], q)
+            }
+            _ => 0,
+        }
+    }
+
+    // Whether the task q is in range.
+    fn task_ok(self, q: usize, task: Task) -> bool
+        ensures { λ r. ⌜ r ≡ defs.taskOk self q task ⌝ }
+    {
+        let kind = self.kind;
+        let n = self.n as usize;
+        let modulus = self.modulus as usize;
+        (11 <= task.line)
+            & (task.line <= last_line(kind))
+            & (task.count <= lines::MAX_COUNT)
+            & field_ok(kind == 0, modulus, task.tag)
+            & field_ok(kind == 0, modulus, task.old)
+            & field_ok((kind == 0) | (kind == 3), n, task.looked)
+            & bitset::within(task.list, self.list_room(q))
+            & field_ok(kind == 1, 2, task.aim)
+            & field_ok(kind == 2, 2, task.toggle)
+            & field_ok(kind == 3, 2, task.flag)
+    }
+
+    // Whether the task at q is as it must be there: in range below N, and all zero from N on.
+    fn place_ok(self, q: usize, task: Task) -> bool
+        ensures { λ r. ⌜ r ≡ pick (ltb q (self .n)) (defs.taskOk self q task) (defs.taskZero task) ⌝ }
+    {
+        if q < self.n as usize {
+            self.task_ok(q, task)
+        } else {
+            task_zero(task)
+        }
+    }
+
+    // Whether all 64 tasks are as they must be.
+    fn tasks_ok(self) -> bool
+        ensures { λ r. ⌜ r ≡ defs.tasksOk self 64 ⌝ }
+    {
+        let mut ok = true;
+        let mut q = 0;
+        while q < 64 {
+            let task = self.tasks[q];
+            ok = ok & self.place_ok(q, task);
+            q += 1;
+        }
+        ok
+    }
+
+    // Whether the parents are in range: for a tree a table that its check accepts, and 0 after it; else all 0.
+    fn parents_ok(self) -> bool
+        ensures { λ r. ⌜ r ≡ defs.parentsOk self ⌝ }
+    {
+        let parents = self.parents;
+        if self.kind != 3 {
+            return all_zero(&parents);
+        }
+        let length = tasks::table_length(self.n);
+        let rest = all_zero(&parents[length..]);
+        accepted(parents::check(&parents[..length], self.n as usize)) & rest
+    }
+
+    // Whether every field is in range.
+    fn in_range(self) -> bool
+        ensures { λ r. ⌜ r ≡ defs.stateOk self ⌝ }
+    {
+        let kind = self.kind;
+        let n = self.n as usize;
+        is_kind(kind as usize)
+            & bitset::is_count(n)
+            & modulus_ok(kind as usize, self.modulus as usize)
+            & field_ok(kind == 1, n + 1, self.arrivals)
+            & field_ok(kind == 1, 2, self.sense)
+            & self.parents_ok()
+            & self.tasks_ok()
+    }
+
+    // 0, or the reason that refuses the state: 7 where a field is out of range.
+    pub fn check(self) -> u8
+        ensures { λ r. ⌜ r ≡ defs.checkState self ⌝ }
+    {
+        if self.in_range() { 0 } else { 7 }
+    }
+}

@@ -1,0 +1,84 @@
+// The tree barrier, line by line, in the order of the note's text. specs/Tree.antt defines each. The task is the one with
+// the number p; task 0 is the root.
+use crate::Effect;
+use crate::Task;
+use crate::Write;
+use crate::lines;
+ghost use mathlib.Core.Path.{_≡_};
+ghost use lib.Dec.{eqb};
+ghost use Rattle.bitset.specs.Choice.{pick};
+ghost use Rattle.machine.specs.Tree as defs;
+
+// 12 and 17: the own children are listed. Only here are they looked for.
+fn list_children(table: &[u8], p: usize, to: u8, mut task: Task) -> Effect
+    ensures { λ r. ⌜ r ≡ defs.treeList (now (table .entry)) p to task ⌝ }
+{
+    task.list = parents::children(table, p);
+    lines::to(task, to)
+}
+
+// 13: the least child of the list is looked at next; on when all have been seen.
+fn line13(task: Task) -> Effect
+    ensures { λ r. ⌜ r ≡ defs.tree13 task ⌝ }
+{
+    lines::choose(15, lines::least(task.list), task)
+}
+
+// 14: awaits the flag of the looked-at child, and leaves it as it is.
+fn line14(flag: u8, task: Task) -> Effect
+    ensures { λ r. ⌜ r ≡ defs.tree14 flag task ⌝ }
+{
+    lines::awaits(flag == 1, task, lines::take_off(task))
+}
+
+// The own flag after 15: raised, but for the root, which has no parent to see it.
+fn flag_up(p: usize, flag: u8) -> u8
+    ensures { λ r. ⌜ r ≡ pick (eqb p 0) flag 1 ⌝ }
+{
+    if p == 0 { flag } else { 1 }
+}
+
+// 15: the flag goes up, and the count rises.
+fn line15(p: usize, task: Task) -> Effect
+    ensures { λ r. ⌜ r ≡ defs.tree15 p task ⌝ }
+{
+    let mut next = task;
+    next.flag = flag_up(p, task.flag);
+    next.line = 16;
+    lines::counts(task, next, Write::Nothing)
+}
+
+// 16: awaits that the parent has cleared the flag; the root has no parent and goes on.
+fn line16(p: usize, task: Task) -> Effect
+    ensures { λ r. ⌜ r ≡ defs.tree16 p task ⌝ }
+{
+    lines::awaits((p == 0) | (task.flag == 0), task, lines::to(task, 17))
+}
+
+// 18: the flag of the least child of the list is cleared, one a turn; back to work when none is left.
+fn line18(mut task: Task) -> Effect
+    ensures { λ r. ⌜ r ≡ defs.tree18 task ⌝ }
+{
+    if task.list == 0 {
+        return lines::to(task, 11);
+    }
+    let child = bitset::least(task.list);
+    task.list = bitset::without(task.list, child);
+    lines::moves(task, Write::Flag(child, 0))
+}
+
+// What the line does. `flag` is that of the looked-at task.
+pub(crate) fn line(line: u8, table: &[u8], p: usize, flag: u8, task: Task) -> Effect
+    ensures { λ r. ⌜ r ≡ defs.treeLine line (now (table .entry)) p flag task ⌝ }
+{
+    match line {
+        11 => lines::work(task),
+        12 | 17 => list_children(table, p, line + 1, task),
+        13 => line13(task),
+        14 => line14(flag, task),
+        15 => line15(p, task),
+        16 => line16(p, task),
+        18 => line18(task),
+        0..=10 | 19..=255 => lines::waits(task),
+    }
+}
