@@ -16,4 +16,3 @@ pub mod KeepLaws
 pub mod LeastLaws
 pub mod FreshLaws
 pub mod CountLaws
-pub mod Cases

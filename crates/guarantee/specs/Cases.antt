@@ -1,0 +1,112 @@
+-- The twelve marked cases of 01's table, one claim over the definitions, shown by computation.
+use mathlib.Core.Path.{_≡_, refl}
+use mathlib.Core.Bool.{Bool, true, false}
+use mathlib.Core.List.{List, [], _∷_}
+use Prim.Native.Nat.{ℕ}
+use lib.ListN.{replicate}
+use Rattle.machine.specs.declared.State.{State}
+use Rattle.machine.specs.declared.Setup.{Setup}
+use Rattle.machine.specs.Setters.{taskAt}
+use Rattle.machine.specs.Fresh.{inputsOf, freshOf, freshReason}
+use Rattle.machine.specs.Range.{taskOk, taskZero, tasksOk, allZero, stateOk, checkState}
+use Rattle.machine.specs.Symmetric.{symmetricLine}
+use Rattle.machine.specs.Increment.{incrementLine}
+use Rattle.machine.specs.Ring.{ringLine}
+use Rattle.machine.specs.Tree.{treeLine}
+use Rattle.machine.specs.Turn.{effectOf, stepOf, turnOf, isMoved}
+use Rattle.bitset.specs.Set.{put, withinDigits}
+use Rattle.parents.specs.Shapes.{shapeTable}
+use Rattle.schedule.specs.Stretch.{namesAll}
+use Rattle.schedule.specs.Passes.{passesFrom, passesOf, pairsFrom}
+use Rattle.parents.specs.Parents.{entriesOk, checkOf, childrenBelow}
+use lib.Count.{trailingZeros}
+
+-- Every definition that the cases compute by: a proof that unfolds this one unfolds them.
+computing : ℕ
+unfolding freshOf freshReason turnOf stepOf effectOf checkState stateOk tasksOk taskOk taskZero allZero symmetricLine incrementLine ringLine treeLine withinDigits put trailingZeros entriesOk checkOf childrenBelow namesAll passesFrom pairsFrom shapeTable
+computing = 0
+
+abbrev pub setup : ℕ → ℕ → ℕ → Setup
+setup kind n modulus = record { kind = kind; n = n; modulus = modulus }
+
+abbrev pub fresh : ℕ → ℕ → ℕ → List ℕ → State
+fresh kind n modulus parents = freshOf (inputsOf (setup kind n modulus) parents) .state
+
+abbrev pub reason : ℕ → ℕ → ℕ → List ℕ → ℕ
+reason kind n modulus parents = freshOf (inputsOf (setup kind n modulus) parents) .reason
+
+-- the state after the turns
+abbrev pub after : State → List ℕ → State
+after s [] = s
+after s (p ∷ ts) = after (turnOf s p .state) ts
+
+-- the line of the named task after each turn
+abbrev pub lines : State → List ℕ → List ℕ
+lines s [] = []
+lines s (p ∷ ts) = taskAt (turnOf s p .state) p .line ∷ lines (turnOf s p .state) ts
+
+-- whether each turn moved
+abbrev pub moved : State → List ℕ → List Bool
+moved s [] = []
+moved s (p ∷ ts) = isMoved (turnOf s p .outcome) ∷ moved (turnOf s p .state) ts
+
+-- "The sheet's input above", and the ring's ten turns
+abbrev pub sheet-end : State
+sheet-end = after (fresh 1 2 0 []) (0 ∷ 0 ∷ 0 ∷ 0 ∷ 1 ∷ 1 ∷ 1 ∷ 1 ∷ 1 ∷ 0 ∷ [])
+
+abbrev pub ring-turns : List ℕ
+ring-turns = 0 ∷ 0 ∷ 0 ∷ 1 ∷ 1 ∷ 1 ∷ 0 ∷ 0 ∷ 1 ∷ 1 ∷ []
+
+abbrev pub ring-end : State
+ring-end = after (fresh 2 2 0 []) ring-turns
+
+abbrev pub tree-pair : State
+tree-pair = fresh 3 2 0 (0 ∷ 0 ∷ [])
+
+pub record Marked : Type 0 where
+  -- "Symmetric, N 1, R 3, five turns of 0: lines 12, 13, 14, 13, 11; count 1, tag 1."
+  pub symmetric : (lines (fresh 0 1 3 []) (replicate 5 0) ≡ 12 ∷ 13 ∷ 14 ∷ 13 ∷ 11 ∷ [])
+      × (taskAt (after (fresh 0 1 3 []) (replicate 5 0)) 0 .count ≡ 1) × (taskAt (after (fresh 0 1 3 []) (replicate 5 0)) 0 .tag ≡ 1)
+  -- "The sheet's input above: both tasks at 11, counts 1, sense 0, arrivals 0."
+  pub sheet : (taskAt sheet-end 0 .line ≡ 11) × (taskAt sheet-end 1 .line ≡ 11) × (taskAt sheet-end 0 .count ≡ 1) × (taskAt sheet-end 1 .count ≡ 1)
+      × (sheet-end .sense ≡ 0) × (sheet-end .arrivals ≡ 0)
+  -- "Ring, N 2, turns 1 1: moved, waited; task 1 at 12."
+  pub ring-waits : (moved (fresh 2 2 0 []) (1 ∷ 1 ∷ []) ≡ true ∷ false ∷ []) × (taskAt (after (fresh 2 2 0 []) (1 ∷ 1 ∷ [])) 1 .line ≡ 12)
+  -- "Ring, N 2, turns 0 0 0 1 1 1 0 0 1 1: all moved; both at 11, counts 1, toggles 0."
+  pub ring-round : (moved (fresh 2 2 0 []) ring-turns ≡ replicate 10 true)
+      × (taskAt ring-end 0 .line ≡ 11) × (taskAt ring-end 1 .line ≡ 11) × (taskAt ring-end 0 .count ≡ 1) × (taskAt ring-end 1 .count ≡ 1)
+      × (taskAt ring-end 0 .toggle ≡ 0) × (taskAt ring-end 1 .toggle ≡ 0)
+  -- "Tree, parents 0 0, turns 0 0 0 0: the fourth waited at 14."
+  pub tree-waits : (moved tree-pair (replicate 4 0) ≡ true ∷ true ∷ true ∷ false ∷ []) × (taskAt (after tree-pair (replicate 4 0)) 0 .line ≡ 14)
+  -- "Tree, N 1, seven turns: lines 12, 13, 15, 16, 17, 18, 11."
+  pub tree-one : lines (fresh 3 1 0 (0 ∷ [])) (replicate 7 0) ≡ 12 ∷ 13 ∷ 15 ∷ 16 ∷ 17 ∷ 18 ∷ 11 ∷ []
+  -- "R 2 refused 4, R 3 accepted."
+  pub modulus : (reason 0 2 2 [] ≡ 4) × (reason 0 2 3 [] ≡ 0)
+  -- "N 0 and 65 refused 3, 64 accepted."
+  pub tasks : (reason 0 0 3 [] ≡ 3) × (reason 0 65 3 [] ≡ 3) × (reason 0 64 3 [] ≡ 0)
+  -- "Parents 0 1 refused 6, 0 0 accepted."
+  pub parents : (reason 3 2 0 (0 ∷ 1 ∷ []) ≡ 6) × (reason 3 2 0 (0 ∷ 0 ∷ []) ≡ 0)
+  -- "N 2, schedule 0 0 1 0 1 1: pairs (0, 3), (3, 2)."
+  pub pairs : pairsFrom 0 (passesOf 2 (0 ∷ 0 ∷ 1 ∷ 0 ∷ 1 ∷ 1 ∷ [])) ≡ 0 ∷ 3 ∷ 3 ∷ 2 ∷ []
+  -- "N 6, binary 0 0 0 1 1 2."
+  pub binary : shapeTable 2 6 ≡ 0 ∷ 0 ∷ 0 ∷ 1 ∷ 1 ∷ 2 ∷ []
+  -- "N 6, low power 0 0 0 2 0 4."
+  pub low-power : shapeTable 3 6 ≡ 0 ∷ 0 ∷ 0 ∷ 2 ∷ 0 ∷ 4 ∷ []
+
+pub marked : Marked
+unfolding computing
+marked =
+    record {
+      symmetric = (refl, refl, refl);
+      sheet = (refl, refl, refl, refl, refl, refl);
+      ring-waits = (refl, refl);
+      ring-round = (refl, refl, refl, refl, refl, refl, refl);
+      tree-waits = (refl, refl);
+      tree-one = refl;
+      modulus = (refl, refl);
+      tasks = (refl, refl, refl);
+      parents = (refl, refl);
+      pairs = refl;
+      binary = refl;
+      low-power = refl;
+    }

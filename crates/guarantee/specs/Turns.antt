@@ -1,0 +1,96 @@
+-- Calls as single turns: the state after the calls is the state after their counted turns, one by one.
+use mathlib.Core.Path.{_≡_, refl, sym, ap, _∙_, subst}
+use mathlib.Core.Bool.{Bool, true, false}
+use mathlib.Core.List.{List, [], _∷_, _++_}
+use mathlib.Core.Logic.{_⊎_, inl, inr}
+use Prim.Native.Nat.{ℕ}
+use lib.Dec.{eqb}
+use lib.ListN.{length, take}
+use borrow.Author.Tests.{eqb-true}
+use Rattle.bitset.specs.Choice.{pick}
+use Rattle.machine.specs.declared.State.{State}
+use Rattle.machine.specs.declared.Outcome.{Outcome}
+use Rattle.machine.specs.declared.Outcome.the-variants.{Made, Refused}
+use Rattle.machine.specs.Turn.{turnOf, reasonNumber, isMoved}
+use Rattle.machine.specs.TurnLaws.{turn-still}
+use Rattle.progress.specs.Counting.{AllCount}
+use Rattle.progress.specs.Counting
+use Rattle.runner.specs.Trace.{Trace, turned, traceOf, countedIn}
+use Rattle.runner.specs.Run.{unstopped, runReason, runPlace, runTrace, ranOf, refusedRun, runOf}
+use Rattle.guarantee.specs.Calls.{Call, turn, run, after, afterAll, countedTurn, counted, countedAll}
+
+-- the state that a turn returns
+abbrev pub turned-to : State → ℕ → State
+turned-to s p = turnOf s p .state
+
+-- a turn that counts is answered moved, waited or 11
+abbrev pub Counts : State → ℕ → Type 0
+Counts s p = (reasonNumber (turnOf s p .outcome) ≡ 0) ⊎ (reasonNumber (turnOf s p .outcome) ≡ 11)
+
+-- the state after single turns
+abbrev pub afterTurns : State → List ℕ → State
+afterTurns s ts = Counting.after turned-to s ts
+
+abbrev pub AllCounted : State → List ℕ → Type 0
+AllCounted s ts = AllCount turned-to Counts s ts
+
+-- what a call's turns do: they count, and they lead to the state that it returns
+pub record Leads (s : State) (ts : List ℕ) (s′ : State) : Type 0 where
+  pub to : afterTurns s ts ≡ s′
+  pub counts : AllCounted s ts
+
+leads-append : (s : State) (ts us : List ℕ) (s′ s″ : State) → Leads s ts s′ → Leads s′ us s″ → Leads s (ts ++ us) s″
+leads-append s [] us s′ s″ a b = subst (λ (x : State). Leads x us s″) (sym (a .to)) b
+leads-append s (p ∷ ts) us s′ s″ a b =
+    let r = leads-append (turned-to s p) ts us s′ s″ (record { to = a .to; counts = a .counts .1 }) b in
+    record { to = r .to; counts = (a .counts .0, r .counts) }
+
+-- a refused turn leaves the state
+refused-still : (s : State) (p k : ℕ) → turnOf s p .outcome ≡ Refused k → turnOf s p .state ≡ s
+refused-still s p k e = turn-still s p (ap isMoved e)
+
+-- a single turn
+leads-turn : (s : State) (p : ℕ) → Leads s (countedTurn p (turnOf s p .outcome)) (turnOf s p .state)
+leads-turn s p = go (turnOf s p .outcome) refl
+  where
+    go : (o : Outcome) → turnOf s p .outcome ≡ o → Leads s (countedTurn p o) (turnOf s p .state)
+    go (Made m) e = record { to = refl; counts = (inl (ap reasonNumber e), tt) }
+    go (Refused k) e = stopped (eqb k 11) refl
+      where
+        stopped : (b : Bool) → eqb k 11 ≡ b → Leads s (pick b (p ∷ []) []) (turnOf s p .state)
+        stopped true q = record { to = refl; counts = (inr (ap reasonNumber e ∙ eqb-true k 11 q), tt) }
+        stopped false q = record { to = sym (refused-still s p k e); counts = tt }
+
+-- the turns of a trace
+leads-trace : (s : State) (ts : List ℕ) → Leads s (countedIn (traceOf s ts)) (traceOf s ts .state)
+unfolding traceOf
+leads-trace s [] = record { to = refl; counts = tt }
+leads-trace s (p ∷ ts) = go (turnOf s p .outcome) refl (leads-trace (turnOf s p .state) ts)
+  where
+    rest : Trace
+    rest = traceOf (turnOf s p .state) ts
+
+    go : (o : Outcome) → turnOf s p .outcome ≡ o → Leads (turnOf s p .state) (countedIn rest) (rest .state)
+        → Leads s (countedIn (turned s p o rest)) (turned s p o rest .state)
+    go (Made m) e l = record { to = l .to; counts = (inl (ap reasonNumber e), l .counts) }
+    go (Refused k) e l = subst (λ (x : State). Leads s (countedTurn p (Refused k)) x) (refused-still s p k e) (subst (λ (o : Outcome). Leads s (countedTurn p o) (turnOf s p .state)) e (leads-turn s p))
+
+-- a call
+pub leads-call : (s : State) (c : Call) → Leads s (counted s c) (after s c)
+unfolding runOf
+leads-call s (turn p) = leads-turn s p
+leads-call s (run schedule allowance log) = go (eqb (runReason s schedule allowance (length log)) 0)
+  where
+    reason : ℕ
+    reason = runReason s schedule allowance (length log)
+
+    go : (b : Bool) → Leads s (pick b (countedIn (runTrace s schedule allowance)) [])
+        (pick b (ranOf (runTrace s schedule allowance) (unstopped allowance (length schedule))) (refusedRun s reason (runPlace s schedule reason)) .state)
+    go true = leads-trace s (take allowance schedule)
+    go false = record { to = refl; counts = tt }
+
+-- all calls
+pub leads-all : (s : State) (cs : List Call) → Leads s (countedAll s cs) (afterAll s cs)
+unfolding countedAll afterAll
+leads-all s [] = record { to = refl; counts = tt }
+leads-all s (c ∷ cs) = leads-append s (counted s c) (countedAll (after s c) cs) (after s c) (afterAll (after s c) cs) (leads-call s c) (leads-all (after s c) cs)

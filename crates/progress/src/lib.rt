@@ -1,0 +1,1 @@
+// The counting argument of the progress rule, over any machine: specs only.

@@ -1,0 +1,186 @@
+// The run of a schedule. What it answers, and what it writes to the log, is defined in specs/Run.antt.
+use machine::Move;
+use machine::Outcome;
+use machine::State;
+ghost use mathlib.Core.Path.{_≡_};
+ghost use mathlib.Core.Bool.{true};
+ghost use Prim.Native.Nat.{_+_, _*_, _^_, _≤_, _<_, min};
+ghost use lib.ListN.{length, getD, take, set};
+ghost use Rattle.machine.specs.Range.{Valid};
+ghost use Rattle.machine.specs.Turn.{moveNumber, reasonNumber};
+ghost use Rattle.schedule.specs.Passes.{maxTurns, unknownAt, allTasks};
+ghost use Rattle.runner.specs.Trace.{traceOf};
+ghost use Rattle.runner.specs.Run as defs;
+
+// How a run ended: all turns done; the allowance spent, with turns left; a turn refused, with its reason; or the whole run refused, with
+// its reason, and the place of the first turn that is no task for reason 9, else 0.
+pub enum Ending {
+    Done,
+    Spent,
+    Stopped(u8),
+    Refused(u8, usize),
+}
+
+// A run's answer: the state, the ending, the turns made, and each task's moves and waits.
+pub struct Ran {
+    pub state: State,
+    pub ending: Ending,
+    pub turns: usize,
+    pub moves: [u32; 64],
+    pub waits: [u32; 64],
+}
+
+// The log's byte for what a turn did: 1 moved, 0 waited.
+fn move_byte(how: Move) -> u8
+    ensures { λ r. ⌜ r ≡ moveNumber how ⌝ }
+{
+    match how {
+        Move::Moved => 1,
+        Move::Waited => 0,
+    }
+}
+
+// The reason of a refused turn.
+fn reason_of(outcome: Outcome) -> u8
+    ensures { λ r. ⌜ r ≡ reasonNumber outcome ⌝ }
+{
+    match outcome {
+        Outcome::Made(_) => 0,
+        Outcome::Refused(reason) => reason,
+    }
+}
+
+// Writes a turn's two bytes at the front of the log's tail.
+fn write_row(tail: &mut [u8], line: u8, moved: u8)
+    requires { ⌜ 2 ≤ length (now tail) ⌝ }
+    ensures { λ _. ⌜ now (tail .exit) ≡ set (set (now (tail .entry)) 0 line) 1 moved ⌝ }
+{
+    tail[0] = line;
+    tail[1] = moved;
+}
+
+// Adds to a task's tally.
+fn tally(all: &mut [u32; 64], task: usize, more: u8)
+    requires { ⌜ (task < 64) × (getD (now all) task 0 + more < 2 ^ 32) ⌝ }
+    ensures { λ _. ⌜ now (all .exit) ≡ set (now (all .entry)) task (getD (now (all .entry)) task 0 + more) ⌝ }
+{
+    all[task] = all[task] + more as u32;
+}
+
+// The place of the first turn that is no task; the schedule's length if there is none.
+fn unknown_at(n: usize, schedule: &[u8]) -> usize
+    ensures { λ r. ⌜ r ≡ unknownAt n (now (schedule .entry)) ⌝ }
+{
+    let mut i = 0;
+    while i < schedule.len() {
+        if n <= schedule[i] as usize {
+            return i;
+        }
+        i += 1;
+    }
+    i
+}
+
+// The smaller of two numbers.
+fn smaller(a: usize, b: usize) -> usize
+    ensures { λ r. ⌜ r ≡ min a b ⌝ }
+{
+    if a < b { a } else { b }
+}
+
+// The ending of a run that no refusal stopped.
+fn ended(allowance: usize, turns: usize) -> Ending
+    ensures { λ r. ⌜ r ≡ defs.unstopped allowance turns ⌝ }
+{
+    if allowance < turns {
+        Ending::Spent
+    } else {
+        Ending::Done
+    }
+}
+
+// Makes the first `turns` turns of the schedule, from a state in range: each turn's answer is taken apart, moved and waited go on, a
+// refusal ends the run.
+fn turns(mut state: State, schedule: &[u8], turns: usize, end: Ending, log: &mut [u8]) -> Ran
+    requires { ⌜ Valid state ⌝ }
+    requires { ⌜ allTasks (state .n) (now schedule) ≡ true ⌝ }
+    requires { ⌜ (turns ≤ length (now schedule)) × (turns ≤ maxTurns) ⌝ }
+    requires { ⌜ 2 * turns ≤ length (now log) ⌝ }
+    ensures { λ r. ⌜ r ≡ defs.ranOf (traceOf state (take turns (now (schedule .entry)))) end ⌝ }
+    ensures { λ _. ⌜ now (log .exit) ≡ defs.loggedOf (traceOf state (take turns (now (schedule .entry)))) (now (log .entry)) ⌝ }
+{
+    let mut moves = [0u32; 64];
+    let mut waits = [0u32; 64];
+    let mut i = 0;
+    while i < turns {
+        let task = schedule[i] as usize;
+        let line = state.tasks[task].line;
+        let answer = state.step(task);
+        state = answer.state;
+        let outcome = answer.outcome;
+        let Outcome::Made(how) = outcome else {
+            return Ran {
+                state,
+                ending: Ending::Stopped(reason_of(outcome)),
+                turns: i,
+                moves,
+                waits,
+            };
+        };
+        let moved = move_byte(how);
+        write_row(&mut log[2 * i..], line, moved);
+        tally(&mut moves, task, moved);
+        tally(&mut waits, task, 1 - moved);
+        i += 1;
+    }
+    Ran {
+        state,
+        ending: end,
+        turns,
+        moves,
+        waits,
+    }
+}
+
+// The answer of a run that is refused as a whole.
+fn refused(state: State, reason: u8, place: usize) -> Ran
+    ensures { λ r. ⌜ r ≡ defs.refusedRun state reason place ⌝ }
+{
+    Ran {
+        state,
+        ending: Ending::Refused(reason, place),
+        turns: 0,
+        moves: [0u32; 64],
+        waits: [0u32; 64],
+    }
+}
+
+// Runs a schedule from a state, at most as many turns as the allowance, and writes two bytes a turn to the log. The state is looked at
+// once, before the first turn.
+pub fn run(state: State, schedule: &[u8], allowance: usize, log: &mut [u8]) -> Ran
+    ensures { λ r. ⌜ r ≡ defs.runOf state (now (schedule .entry)) allowance (now (log .entry)) ⌝ }
+    ensures { λ _. ⌜ now (log .exit) ≡ defs.logAfter state (now (schedule .entry)) allowance (now (log .entry)) ⌝ }
+{
+    let reason = state.check();
+    if reason != 0 {
+        return refused(state, reason, 0);
+    }
+    if 65536 < schedule.len() {
+        return refused(state, 8, 0);
+    }
+    let place = unknown_at(state.n as usize, schedule);
+    if place < schedule.len() {
+        return refused(state, 9, place);
+    }
+    let count = smaller(allowance, schedule.len());
+    if log.len() < 2 * count {
+        return refused(state, 10, 0);
+    }
+    turns(
+        state,
+        schedule,
+        count,
+        ended(allowance, schedule.len()),
+        log,
+    )
+}
