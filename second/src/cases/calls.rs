@@ -1,0 +1,89 @@
+//! Random requests beside those of a barrier: passes, first passes, shapes, and lines that are
+//! almost requests.
+
+use super::scenes::{any_task_count, near, near_length, spoil};
+use crate::passes::Passes;
+use crate::random::Random;
+use crate::recorder::Recorder;
+use crate::schedules;
+
+/// Passes of random schedules.
+pub fn any_passes(recorder: &mut Recorder, random: &mut Random) {
+    for _ in 0..random.length(1, 6) {
+        let n = any_task_count(random);
+        let length = random.length(0, 40 + 4 * n);
+        let mut schedule = schedules::any(random, n, length);
+        let enough = 2 * Passes::new(n, &schedule).count() as u64;
+        spoil(random, &mut schedule, n);
+        let n = if random.once_in(10) { near(random) } else { n as u64 };
+        recorder.passes(n, near_length(random, enough), &schedule);
+    }
+}
+
+/// First passes of random schedules.
+pub fn any_first_pass(recorder: &mut Recorder, random: &mut Random) {
+    for _ in 0..random.length(1, 6) {
+        let n = any_task_count(random);
+        let length = random.length(0, 20 + 4 * n);
+        let mut schedule = schedules::any(random, n, length);
+        spoil(random, &mut schedule, n);
+        let n = if random.once_in(10) { near(random) } else { n as u64 };
+        let place = match random.below(8) {
+            0 => near(random),
+            1 => length as u64,
+            _ => random.below(length as u64 / 2 + 1),
+        };
+        recorder.first_pass(n, place, &schedule);
+    }
+}
+
+/// Shapes.
+pub fn any_shape(recorder: &mut Recorder, random: &mut Random) {
+    let shape = if random.once_in(8) { near(random) } else { random.below(4) };
+    let n = if random.once_in(4) { near(random) } else { 1 + random.below(64) };
+    recorder.shape(shape, n, near_length(random, n.min(70)));
+}
+
+/// Lines that are almost requests.
+pub fn misspelt(recorder: &mut Recorder, random: &mut Random) {
+    for _ in 0..random.length(1, 6) {
+        let mut text = any_line(random).into_bytes();
+        for _ in 0..random.length(0, 2) {
+            misspell(random, &mut text);
+        }
+        recorder.ask(text);
+    }
+}
+
+/// A request of random numbers, a few with zeros before them.
+fn any_line(random: &mut Random) -> String {
+    let length = random.length(1, 8);
+    let mut numbers = vec![random.below(11)];
+    for _ in 1..length {
+        let number = if random.once_in(3) { near(random) } else { random.below(5) };
+        numbers.push(number.min(1 << 32));
+    }
+    if matches!(numbers[0], 4 | 7 | 9) {
+        let last = numbers.len().min(if numbers[0] == 9 { 4 } else { 3 }) - 1;
+        numbers[last] = numbers[last].min(300);
+    }
+    let words = numbers.iter().map(|number| {
+        let width = if random.once_in(12) { random.length(18, 22) } else { 1 };
+        format!("{number:0width$}")
+    });
+    words.collect::<Vec<_>>().join(" ")
+}
+
+/// Puts in, takes out or changes one byte.
+fn misspell(random: &mut Random, text: &mut Vec<u8>) {
+    let byte = random.pick(b" 0123456789-+,.x\t\r\0\xff");
+    let place = random.length(0, text.len());
+    match random.below(3) {
+        0 => text.insert(place, byte),
+        1 if place < text.len() => text[place] = byte,
+        2 if place < text.len() => {
+            text.remove(place);
+        }
+        _ => {}
+    }
+}

@@ -1,0 +1,152 @@
+//! Random damage: fields changed to values in and near their ranges, whole random states in
+//! range, and counts near their limit.
+
+use super::scenes::{accepted_fresh, any_run, turn_of_ready, turn_of_someone};
+use super::TASK_COUNTS;
+use crate::machine::{in_range, State, FETCH_AND_INCREMENT, MAX_COUNT, RING, SYMMETRIC, TREE};
+use crate::random::Random;
+use crate::recorder::Recorder;
+use crate::requests::field_value;
+
+/// Counts around the limit and elsewhere.
+const COUNTS: [u64; 8] = [0, 1, 2, 3, 999_998, 999_999, 1_000_000, 1_000_001];
+
+// ---- one field ----
+
+/// Changes one field to a value in or near its range, and leaves it so.
+pub fn damage(recorder: &mut Recorder, random: &mut Random) {
+    let (field, task, value) = any_change(recorder, random);
+    recorder.change(field, task, value);
+}
+
+/// Changes one field; asks, and most often changes it back if it went out of range.
+pub fn damage_for_a_while(recorder: &mut Recorder, random: &mut Random) {
+    let (field, task, value) = any_change(recorder, random);
+    let before = field_value(recorder.state(), field, task as usize);
+    recorder.change(field, task, value);
+    if in_range(recorder.state()) {
+        return;
+    }
+    recorder.ready();
+    turn_of_someone(recorder, random);
+    if random.once_in(3) {
+        any_run(recorder, random, 6);
+    }
+    if !random.once_in(8) {
+        recorder.change(field, task, before);
+    }
+}
+
+/// A field, a task and a value.
+fn any_change(recorder: &Recorder, random: &mut Random) -> (u64, u64, u64) {
+    let state = recorder.state();
+    let n = recorder.n().clamp(1, 64);
+    let field = random.below(15);
+    let task = match field {
+        9..=13 => 0,
+        _ if random.once_in(5) => random.length(0, 63),
+        _ => random.length(0, n - 1),
+    };
+    let value = if random.once_in(2) {
+        value_in_range(state, random, field, task)
+    } else {
+        value_near_range(state, random, field)
+    };
+    (field, task as u64, value)
+}
+
+/// A value at or just beyond an end of a field's range.
+fn value_near_range(state: &State, random: &mut Random, field: u64) -> u64 {
+    let (n, modulus) = (u64::from(state.n), u64::from(state.modulus));
+    match field {
+        0 => random.length(10, 19) as u64,
+        1 => random.pick(&COUNTS),
+        2 | 3 => random.pick(&[0, 1, modulus.saturating_sub(1), modulus, modulus + 1]),
+        4 => 1 << random.below(n.min(62) + 2),
+        5 => random.pick(&[0, 1, n.saturating_sub(1), n, n + 1]),
+        6..=8 | 13 => random.below(3),
+        9 => random.below(5),
+        10 => random.pick(&[0, 1, n.saturating_sub(1), n, n + 1, 64, 65]),
+        11 => random.pick(&[0, 1, 2, 3, 4, 254, 255, 256]),
+        12 => random.pick(&[0, 1, n.saturating_sub(1), n, n + 1]),
+        _ => random.pick(&[0, 1, 2, n, 63, 64, 255, 256]),
+    }
+}
+
+/// A value in a field's range, where the rest of the state is in range.
+fn value_in_range(state: &State, random: &mut Random, field: u64, task: usize) -> u64 {
+    let (kind, n) = (state.kind, u64::from(state.n).max(1));
+    match (field, kind) {
+        (0, SYMMETRIC) => 11 + random.below(4),
+        (0, FETCH_AND_INCREMENT) => 11 + random.below(6),
+        (0, RING) => 11 + random.below(5),
+        (0, _) => 11 + random.below(8),
+        (1, _) => random.pick(&COUNTS).min(MAX_COUNT.into()),
+        (2 | 3, SYMMETRIC) => random.below(u64::from(state.modulus).max(1)),
+        (4, SYMMETRIC) => random.next() & random.next() & (u64::MAX >> (64 - n.min(64))),
+        (4, TREE) => random.next() & children(state, task),
+        (5, SYMMETRIC | TREE) => random.below(n),
+        (6, FETCH_AND_INCREMENT) | (7, RING) | (8, TREE) => random.below(2),
+        (12, FETCH_AND_INCREMENT) => random.below(n + 1),
+        (13, FETCH_AND_INCREMENT) => random.below(2),
+        (14, TREE) if task > 0 && task < n as usize => random.below(task as u64),
+        _ => field_value(state, field, task),
+    }
+}
+
+/// The list of the tasks below N whose entry names the task.
+fn children(state: &State, task: usize) -> u64 {
+    let n = usize::from(state.n).min(64);
+    let tasks = (1..n).filter(|&child| usize::from(state.parents[child]) == task);
+    tasks.fold(0, |list, child| list | 1 << child)
+}
+
+// ---- whole states ----
+
+/// A random state in range, then every task's turn and some runs.
+pub fn state_in_range(recorder: &mut Recorder, random: &mut Random) {
+    let kind = random.below(4) as u8;
+    let n = if random.once_in(10) { random.pick(&TASK_COUNTS) } else { random.length(1, 4) };
+    accepted_fresh(recorder, random, kind, n);
+    let small = !random.once_in(4);
+    for task in 0..n {
+        for field in 0..=8 {
+            if field != 1 || !small {
+                any_value(recorder, random, field, task);
+            }
+        }
+    }
+    any_value(recorder, random, 12, 0);
+    any_value(recorder, random, 13, 0);
+    recorder.show();
+    recorder.ready();
+    for task in 0..n.min(6) {
+        recorder.turn(task as u64);
+    }
+    recorder.show();
+    any_run(recorder, random, 60);
+    recorder.show();
+}
+
+/// Sets a field to a random value in its range.
+fn any_value(recorder: &mut Recorder, random: &mut Random, field: u64, task: usize) {
+    let value = value_in_range(recorder.state(), random, field, task);
+    recorder.set(field, task, value);
+}
+
+/// Counts at and just below the limit.
+pub fn near_the_limit(recorder: &mut Recorder, random: &mut Random) {
+    let kind = random.below(4) as u8;
+    let n = random.length(1, 4);
+    accepted_fresh(recorder, random, kind, n);
+    for task in 0..n {
+        let count = random.pick(&[999_998, 999_999, 999_999, 1_000_000]);
+        recorder.set(1, task, count);
+    }
+    for _ in 0..3 {
+        any_run(recorder, random, 60);
+        turn_of_ready(recorder);
+        turn_of_someone(recorder, random);
+    }
+    recorder.show();
+}

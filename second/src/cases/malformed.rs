@@ -1,0 +1,220 @@
+//! Lines that are no requests, of every sort, and the requests that just still are.
+
+use crate::machine::{RING, TREE};
+use crate::recorder::{line, Recorder};
+use crate::requests::MAX_LINE;
+use crate::schedules::{cycle, repeat};
+
+pub fn cases(recorder: &mut Recorder) {
+    recorder.fresh(RING.into(), 3, 0, &[]);
+    recorder.run_all(&cycle(3, 8));
+    spaces(recorder);
+    other_bytes(recorder);
+    digits(recorder);
+    largest_numbers(recorder);
+    unknown_requests(recorder);
+    lengths(recorder);
+    entries(recorder);
+    buffers(recorder);
+    long_schedules(recorder);
+    long_tables(recorder);
+    missing_fields(recorder);
+    field_types(recorder);
+    long_lines(recorder);
+}
+
+/// An empty line, and spaces where none stand.
+fn spaces(recorder: &mut Recorder) {
+    for text in ["", " ", "  ", " 3", "3 ", " 2 0", "2 0 ", "2  0", "2   0", " 5 "] {
+        recorder.ask(text);
+    }
+    for text in ["4 1 2  0", "4 1 2 0 ", "4 1 2 ", " 4 1 2", "7 1  0", "8 1 0  0", "9 0 1 1 "] {
+        recorder.ask(text);
+    }
+    recorder.show();
+}
+
+/// Bytes other than digits and spaces.
+fn other_bytes(recorder: &mut Recorder) {
+    for byte in (0..=255_u8).filter(|byte| *byte != b'\n') {
+        recorder.ask([b'3', byte]);
+        recorder.ask([b'2', byte, b'1']);
+    }
+    for text in ["three", "-1", "+3", "3.0", "0x3", "2 -1", "2 +1", "2,1", "2 1;", "\t3", "3\r"] {
+        recorder.ask(text);
+    }
+    recorder.ask("2 \u{661}");
+    recorder.ask("\u{ff13}");
+    recorder.ask([0xef, 0xbb, 0xbf, b'3']);
+    recorder.show();
+}
+
+/// 20 digits and 21.
+fn digits(recorder: &mut Recorder) {
+    for request in [2, 3, 5] {
+        for width in [1, 2, 19, 20, 21, 22, 40] {
+            recorder.ask(format!("{request:0width$}"));
+            recorder.ask(format!("2 {request:0width$}"));
+            recorder.ask(format!("8 3 0 0 1 {request:0width$}"));
+        }
+    }
+    recorder.show();
+}
+
+/// 2^64 - 1 and 2^64 at every place that takes any number.
+fn largest_numbers(recorder: &mut Recorder) {
+    for number in [
+        "18446744073709551615",
+        "18446744073709551616",
+        "18446744073709551617",
+        "18446744073709551625",
+        "99999999999999999999",
+        "36893488147419103232",
+        "100000000000000000000",
+        "018446744073709551615",
+    ] {
+        for before in ["", "1 ", "1 2 ", "1 2 1 ", "2 ", "3 ", "6 ", "6 0 ", "6 4 0 ", "9 ", "9 0 "]
+        {
+            recorder.ask(format!("{before}{number}"));
+            recorder.ask(format!("{before}{number} 1"));
+            recorder.ask(format!("{before}{number} 1 1"));
+        }
+        recorder.fresh(RING.into(), 3, 0, &[]);
+        recorder.ask(format!("4 {number} 2 0"));
+        recorder.ask(format!("4 1 {number} 0"));
+        recorder.ask(format!("4 1 2 {number}"));
+        recorder.ask(format!("7 {number} 2 0"));
+        recorder.ask(format!("7 1 {number} 0"));
+        recorder.ask(format!("8 {number} 0 0"));
+        recorder.ask(format!("8 1 {number} 0"));
+    }
+    recorder.show();
+}
+
+/// Requests that there aren't.
+fn unknown_requests(recorder: &mut Recorder) {
+    for request in [0, 10, 11, 15, 255, 256, 257, 259, 1 << 32, u64::MAX] {
+        for numbers in [&[][..], &[0], &[0, 0], &[1, 2, 0], &[2, 2, 0, 0]] {
+            recorder.ask(line(&[&[request], numbers].concat(), &[]));
+        }
+    }
+    recorder.show();
+}
+
+/// Each request with too few numbers, enough and too many.
+fn lengths(recorder: &mut Recorder) {
+    for request in 1..=9 {
+        for length in 0..=7 {
+            let numbers = [request, 0, 0, 0, 0, 0, 0, 0];
+            recorder.ask(line(&numbers[..=length], &[]));
+        }
+        recorder.fresh(RING.into(), 3, 0, &[]);
+        recorder.run_all(&cycle(3, 7));
+    }
+    for length in 1..=4 {
+        recorder.ask(line(&[1, 2, 3, 0][..length], &[]));
+        recorder.ask(line(&[6, 0, 0, 11][..length], &[]));
+        recorder.ask(line(&[9, 1, 2, 3][..length], &[]));
+    }
+    recorder.ask("6 0 0 11 0");
+    recorder.ask("9 1 2 3 0");
+    recorder.ask("2 0 0");
+    recorder.ask("3 3");
+    recorder.ask("5 5");
+    recorder.show();
+}
+
+/// Turns and parents of 255 and 256.
+fn entries(recorder: &mut Recorder) {
+    for entry in [254, 255, 256, 257, 1 << 32, u64::MAX] {
+        recorder.ask(line(&[1, 3, 2, 0, 0, entry], &[]));
+        recorder.ask(line(&[1, 3, 2, 0, entry, 0], &[]));
+        recorder.fresh(RING.into(), 3, 0, &[]);
+        recorder.ask(line(&[4, 2, 4, 0, entry], &[]));
+        recorder.ask(line(&[4, 0, 0, entry, 0], &[]));
+        recorder.ask(line(&[7, 1, 2, 0, entry], &[]));
+        recorder.ask(line(&[7, 1, 2, entry, 0], &[]));
+        recorder.ask(line(&[8, 1, 0, 0, entry], &[]));
+        recorder.ask(line(&[8, 1, 1, entry, 0], &[]));
+        recorder.ask(line(&[8, 0, 9, entry, 0], &[]));
+    }
+    recorder.show();
+}
+
+/// Lent buffers that are too long; a log and a list of 131,072 stand with the long cases.
+fn buffers(recorder: &mut Recorder) {
+    recorder.run(1, 131_073, &[0]);
+    recorder.run(1, 1 << 32, &[0]);
+    recorder.passes(1, 131_073, &[0]);
+    recorder.passes(1, 1 << 32, &[0]);
+    for table in [4_096, 4_097, 1 << 32] {
+        recorder.shape(0, 1, table);
+        recorder.shape(4, 65, table);
+    }
+    recorder.show();
+}
+
+/// Schedules of 70,000 turns and 70,001.
+fn long_schedules(recorder: &mut Recorder) {
+    recorder.fresh(RING.into(), 1, 0, &[]);
+    for length in [70_000, 70_001] {
+        let schedule = repeat(0, length);
+        recorder.run(1, 2, &schedule);
+        recorder.passes(1, 2, &schedule);
+        recorder.first_pass(1, 69_999, &schedule);
+    }
+    recorder.show();
+}
+
+/// Parent tables of 4,096 entries and 4,097.
+fn long_tables(recorder: &mut Recorder) {
+    for length in [4_095, 4_096, 4_097, 4_098] {
+        recorder.fresh(RING.into(), 2, 0, &[]);
+        recorder.turn(0);
+        recorder.fresh(TREE.into(), 64, 0, &repeat(0, length));
+        recorder.turn(0);
+    }
+    recorder.show();
+}
+
+/// Fields and tasks of request 6 that aren't there.
+fn missing_fields(recorder: &mut Recorder) {
+    recorder.fresh(RING.into(), 3, 0, &[]);
+    for field in (0..=16).chain([255, 256, 1 << 32, u64::MAX]) {
+        for task in [0, 1, 63, 64, 255, 256, 1 << 32, u64::MAX] {
+            recorder.change(field, task, 1);
+        }
+        recorder.show();
+        recorder.fresh(RING.into(), 3, 0, &[]);
+    }
+}
+
+/// Values that a field's type just holds, and one more.
+fn field_types(recorder: &mut Recorder) {
+    for field in 0..=14 {
+        for value in [255, 256, 511, (1 << 32) - 1, 1 << 32, (1 << 32) + 1, u64::MAX] {
+            recorder.change(field, 0, value);
+        }
+        recorder.show();
+    }
+    recorder.fresh(RING.into(), 3, 0, &[]);
+}
+
+/// Lines of 1,048,576 bytes and one more.
+fn long_lines(recorder: &mut Recorder) {
+    for length in [MAX_LINE, MAX_LINE + 1] {
+        recorder.ask(first_pass_line(length));
+    }
+    recorder.show();
+}
+
+/// Request 8 in so many bytes: its turns are zeros of 14 digits, and of 15 as far as needed.
+pub fn first_pass_line(length: usize) -> String {
+    let mut text = String::from("8 1 69000");
+    let rest = length - text.len();
+    for place in 0..rest / 15 {
+        let width = 14 + usize::from(place < rest % 15);
+        text.push_str(&format!(" {:0width$}", 0));
+    }
+    text
+}

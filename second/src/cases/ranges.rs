@@ -1,0 +1,151 @@
+//! Every field at and beyond the ends of its range, in used and unused fields, in tasks below N
+//! and from N on.
+
+use crate::machine::{SYMMETRIC, TREE};
+use crate::recorder::Recorder;
+use crate::schedules::cycle;
+use crate::shapes::shape;
+
+pub fn cases(recorder: &mut Recorder) {
+    for kind in 0..=3 {
+        for n in [1, 3, 64] {
+            begin(recorder, kind, n);
+            shared_fields(recorder);
+            task_fields(recorder);
+            recorder.show();
+        }
+        another_task(recorder, kind);
+    }
+    every_kind_for_every_kind(recorder);
+    parents_of_a_running_tree(recorder);
+}
+
+/// A state some turns after a fresh one.
+fn begin(recorder: &mut Recorder, kind: u8, n: usize) {
+    let mut parents = vec![0; if kind == TREE { n } else { 0 }];
+    let _ = shape(2, parents.len() as u64, &mut parents);
+    let modulus = if kind == SYMMETRIC { 5 } else { 0 };
+    recorder.fresh(kind.into(), n as u64, modulus, &parents);
+    recorder.run_all(&cycle(n, 5));
+    recorder.show();
+}
+
+/// Fields 9 to 13 at the values around their ends.
+fn shared_fields(recorder: &mut Recorder) {
+    let n = recorder.n() as u64;
+    for kind in [0, 1, 2, 3, 4, 255] {
+        probe(recorder, 9, 0, kind);
+    }
+    for count in [0, 1, n - 1, n, n + 1, 63, 64, 65, 255] {
+        probe(recorder, 10, 0, count);
+    }
+    for modulus in [0, 1, 2, 3, 254, 255] {
+        probe(recorder, 11, 0, modulus);
+    }
+    for arrivals in [0, 1, n - 1, n, n + 1, 65, 255] {
+        probe(recorder, 12, 0, arrivals);
+    }
+    for sense in [0, 1, 2, 255] {
+        probe(recorder, 13, 0, sense);
+    }
+}
+
+/// Fields 0 to 8 and the parents of tasks at and around N.
+fn task_fields(recorder: &mut Recorder) {
+    let n = recorder.n();
+    let mut tasks = vec![0, 1, n - 1, n, n + 1, 62, 63];
+    tasks.retain(|&task| task < 64);
+    tasks.sort_unstable();
+    tasks.dedup();
+    for task in tasks {
+        for field in 0..=8 {
+            for value in values(recorder, field, task) {
+                probe(recorder, field, task, value);
+            }
+        }
+        for parent in [0, 1, task.saturating_sub(1), task, task + 1, n, 255] {
+            probe(recorder, 14, task, parent as u64);
+        }
+    }
+}
+
+/// The values around the ends of a task's field, in any kind.
+fn values(recorder: &Recorder, field: u64, task: usize) -> Vec<u64> {
+    let n = recorder.n() as u64;
+    match field {
+        0 => vec![0, 1, 10, 11, 12, 13, 14, 15, 16, 17, 18, 19, 255],
+        1 => vec![0, 1, 999_999, 1_000_000, 1_000_001, u64::from(u32::MAX)],
+        2 | 3 => vec![0, 1, 4, 5, 6, 255],
+        4 => lists(n, task),
+        5 => vec![0, 1, n - 1, n, n + 1, 63, 64, 255],
+        _ => vec![0, 1, 2, 255],
+    }
+}
+
+/// Lists at the ends of all tasks and of the task's children in a binary tree.
+fn lists(n: u64, task: usize) -> Vec<u64> {
+    let all = u64::MAX >> (64 - n);
+    let own = 1 << task;
+    let left = 1_u64.checked_shl(2 * task as u32 + 1).unwrap_or(0) & all;
+    let right = 1_u64.checked_shl(2 * task as u32 + 2).unwrap_or(0) & all;
+    let beyond = 1_u64.checked_shl(n as u32).unwrap_or(0);
+    let both = left | right;
+    vec![0, 1, 2, own, left, right, both, both | own, both | 1, all, beyond, all | beyond, 1 << 63]
+}
+
+/// Asks for the ranges with one field changed. In range, 255 is no task and refused 9.
+fn probe(recorder: &mut Recorder, field: u64, task: usize, value: u64) {
+    let runs = task + 1 == recorder.n();
+    recorder.with(field, task, value, |recorder| {
+        recorder.ready();
+        recorder.turn(255);
+        if runs {
+            recorder.run(0, 0, &[255]);
+        }
+    });
+}
+
+/// One task more, once its line is there.
+fn another_task(recorder: &mut Recorder, kind: u8) {
+    for n in [1, 3, 63] {
+        begin(recorder, kind, n);
+        recorder.change(0, n as u64, 11);
+        recorder.ready();
+        recorder.change(10, 0, n as u64 + 1);
+        recorder.ready();
+        recorder.run_all(&cycle(n + 1, 2 * n + 2));
+        recorder.show();
+    }
+}
+
+/// A state of one kind read as another: in range once the modulus and the sense fit.
+fn every_kind_for_every_kind(recorder: &mut Recorder) {
+    for from in 0..=3 {
+        for to in 0..=3 {
+            begin(recorder, from, 3);
+            recorder.change(9, 0, to);
+            recorder.ready();
+            recorder.change(11, 0, if to == 0 { 3 } else { 0 });
+            recorder.ready();
+            recorder.change(13, 0, 0);
+            recorder.ready();
+            recorder.run_all(&cycle(3, 9));
+            recorder.show();
+        }
+    }
+}
+
+/// Lists are held against the children that the parents give now.
+fn parents_of_a_running_tree(recorder: &mut Recorder) {
+    recorder.fresh(TREE.into(), 4, 0, &[0, 0, 0, 0]);
+    recorder.run_all(&[0, 0, 0]);
+    for (task, parent) in [(3, 2), (3, 1), (3, 0), (2, 1), (2, 2), (2, 0), (1, 1), (0, 1)] {
+        recorder.change(14, task, parent);
+        recorder.ready();
+        recorder.change(4, 0, 0b0110);
+        recorder.ready();
+        recorder.change(4, 0, 0b1110);
+        recorder.turn(4);
+        recorder.show();
+    }
+}

@@ -1,0 +1,249 @@
+//! Every refusal of every call at its boundary, on both sides, and the order of the refusals.
+//! Schedules of 65,536 turns and more stand with the long cases, counts with the limits.
+
+use crate::machine::{FETCH_AND_INCREMENT, RING, SYMMETRIC, TREE};
+use crate::recorder::Recorder;
+use crate::schedules::cycle;
+
+pub fn cases(recorder: &mut Recorder) {
+    turned_away_by_zeros(recorder);
+    fresh_kinds_and_counts(recorder);
+    fresh_moduli(recorder);
+    fresh_tables(recorder);
+    fresh_order(recorder);
+    turns(recorder);
+    runs(recorder);
+    run_order(recorder);
+    passes(recorder);
+    passes_order(recorder);
+    first_passes(recorder);
+    shapes(recorder);
+}
+
+/// A refused fresh state is kept; it is all zeros and out of range.
+fn turned_away_by_zeros(recorder: &mut Recorder) {
+    recorder.fresh(RING.into(), 2, 0, &[]);
+    recorder.fresh(RING.into(), 2, 3, &[]);
+    recorder.show();
+    recorder.turn(0);
+    recorder.ready();
+    recorder.run(0, 0, &[]);
+    recorder.run(2, 4, &[0, 1]);
+    recorder.show();
+}
+
+/// 2 and 3 of a fresh state.
+fn fresh_kinds_and_counts(recorder: &mut Recorder) {
+    for kind in 0..=3 {
+        for n in [0, 1, 2, 63, 64, 65, 255, 256, 257, 320, u64::MAX] {
+            let modulus = if kind == 0 { 3 } else { 0 };
+            let table = if kind == 3 { n.min(65) } else { 0 };
+            recorder.fresh(kind, n, modulus, &vec![0; table as usize]);
+            recorder.ready();
+        }
+    }
+    for kind in [4, 5, 255, 256, 259, 1 << 32, u64::MAX] {
+        recorder.fresh(kind, 2, 0, &[]);
+        recorder.fresh(kind, 2, 3, &[]);
+        recorder.fresh(kind, 2, 0, &[0, 0]);
+    }
+    recorder.show();
+}
+
+/// 4 of a fresh state.
+fn fresh_moduli(recorder: &mut Recorder) {
+    for modulus in [0, 1, 2, 3, 4, 254, 255, 256, 257, 259, 1 << 32, u64::MAX] {
+        recorder.fresh(SYMMETRIC.into(), 2, modulus, &[]);
+        recorder.ready();
+        recorder.fresh(FETCH_AND_INCREMENT.into(), 2, modulus, &[]);
+        recorder.fresh(RING.into(), 2, modulus, &[]);
+        recorder.fresh(TREE.into(), 2, modulus, &[0, 0]);
+        recorder.ready();
+    }
+    recorder.show();
+}
+
+/// 5 and 6 of a fresh state.
+fn fresh_tables(recorder: &mut Recorder) {
+    for n in [1, 2, 5, 63, 64] {
+        for length in [0, 1, n - 1, n, n + 1] {
+            recorder.fresh(TREE.into(), n, 0, &vec![0; length as usize]);
+        }
+    }
+    for kind in [SYMMETRIC, FETCH_AND_INCREMENT, RING] {
+        let modulus = if kind == SYMMETRIC { 3 } else { 0 };
+        for length in [0, 1, 2, 3, 64] {
+            recorder.fresh(kind.into(), 2, modulus, &vec![0; length]);
+        }
+    }
+    for entry in [0, 1, 2, 63, 64, 255] {
+        recorder.fresh(TREE.into(), 1, 0, &[entry]);
+        recorder.fresh(TREE.into(), 3, 0, &[entry, 0, 0]);
+    }
+    for n in [3_usize, 64] {
+        for task in [1, 2, n - 1] {
+            fresh_parent(recorder, n, task);
+        }
+    }
+    recorder.show();
+}
+
+/// Each value near the own number as one task's parent.
+fn fresh_parent(recorder: &mut Recorder, n: usize, task: usize) {
+    for parent in [0, task - 1, task, task + 1, 63, 64, 255] {
+        let mut parents = vec![0; n];
+        parents[task] = parent as u8;
+        recorder.fresh(TREE.into(), n as u64, 0, &parents);
+        recorder.ready();
+    }
+}
+
+/// The order of 2 to 6 where two or more apply.
+fn fresh_order(recorder: &mut Recorder) {
+    recorder.fresh(4, 0, 0, &[]);
+    recorder.fresh(4, 65, 2, &[1]);
+    recorder.fresh(4, 2, 300, &[1]);
+    recorder.fresh(0, 0, 2, &[]);
+    recorder.fresh(0, 65, 0, &[0]);
+    recorder.fresh(3, 0, 1, &[]);
+    recorder.fresh(3, 65, 0, &[1; 65]);
+    recorder.fresh(3, 65, 0, &[]);
+    recorder.fresh(1, 0, 0, &[0]);
+    recorder.fresh(0, 2, 2, &[0]);
+    recorder.fresh(1, 2, 1, &[0, 0]);
+    recorder.fresh(3, 2, 1, &[0]);
+    recorder.fresh(3, 2, 1, &[0, 1]);
+    recorder.fresh(3, 2, 0, &[1]);
+    recorder.fresh(3, 2, 0, &[0, 1, 2]);
+    recorder.fresh(2, 2, 0, &[1]);
+    recorder.fresh(3, 2, 0, &[1, 1]);
+}
+
+/// 7 and 9 of a turn.
+fn turns(recorder: &mut Recorder) {
+    for n in [1, 2, 63, 64] {
+        recorder.fresh(RING.into(), n, 0, &[]);
+        for task in [n - 1, n, n + 1, 255, 256, 256 + n, 1 << 32, u64::MAX] {
+            recorder.turn(task);
+        }
+        recorder.show();
+        recorder.with(0, 0, 10, |recorder| {
+            for task in [0, n - 1, n, u64::MAX] {
+                recorder.turn(task);
+            }
+        });
+        recorder.show();
+    }
+}
+
+/// 9 and 10 of a run, and its allowance.
+fn runs(recorder: &mut Recorder) {
+    run_tasks(recorder);
+    let schedule = cycle(3, 5);
+    for allowance in [0, 1, 2, 4, 5, 6, 100, 1 << 32, 1 << 63, u64::MAX] {
+        let log = 2 * allowance.min(5);
+        for length in [0, log.saturating_sub(2), log.saturating_sub(1), log, log + 1] {
+            recorder.fresh(FETCH_AND_INCREMENT.into(), 3, 0, &[]);
+            recorder.run(allowance, length, &schedule);
+            recorder.ready();
+        }
+        recorder.show();
+    }
+}
+
+/// A schedule's turn that is no task, at every place and beyond the allowance too.
+fn run_tasks(recorder: &mut Recorder) {
+    recorder.fresh(SYMMETRIC.into(), 3, 3, &[]);
+    for task in [2, 3, 4, 63, 64, 255] {
+        for place in 0..4 {
+            let mut schedule = cycle(3, 4);
+            schedule[place] = task;
+            recorder.run(4, 8, &schedule);
+            recorder.run(place as u64, 8, &schedule);
+        }
+        recorder.run(3, 6, &[0, task, 1, 255, task]);
+        recorder.run(0, 0, &[0, 1, task]);
+    }
+    recorder.show();
+}
+
+/// The order of 7, 9 and 10 where two or more apply.
+fn run_order(recorder: &mut Recorder) {
+    recorder.fresh(RING.into(), 3, 0, &[]);
+    recorder.run(2, 3, &[0, 3]);
+    recorder.run(2, 0, &[3, 3]);
+    recorder.with(2, 1, 1, |recorder| {
+        recorder.run(2, 4, &[0, 3]);
+        recorder.run(2, 3, &[0, 1]);
+        recorder.run(2, 3, &[0, 3]);
+        recorder.run(0, 0, &[]);
+    });
+    recorder.show();
+}
+
+/// 3, 9 and 10 of passes.
+fn passes(recorder: &mut Recorder) {
+    for n in [0, 1, 2, 63, 64, 65, 256, 257, u64::MAX] {
+        recorder.passes(n, 6, &[0, 0]);
+        recorder.passes(n, 6, &cycle(64, 128));
+        recorder.passes(n, 0, &[]);
+    }
+    for task in [1, 2, 255] {
+        for place in 0..4 {
+            let mut schedule = cycle(2, 4);
+            schedule[place] = task;
+            recorder.passes(2, 5, &schedule);
+        }
+    }
+    for length in 0..=9 {
+        recorder.passes(3, length, &[0, 1, 1, 2, 2, 1, 0, 0, 2, 1, 1, 2]);
+        recorder.passes(1, length, &[0, 0, 0, 0]);
+        recorder.passes(2, length, &[0, 0, 0]);
+    }
+}
+
+/// The order of 3, 9 and 10 where two or more apply.
+fn passes_order(recorder: &mut Recorder) {
+    recorder.passes(0, 0, &[0]);
+    recorder.passes(0, 1, &[255]);
+    recorder.passes(65, 0, &[65, 255]);
+    recorder.passes(1, 0, &[0, 1]);
+    recorder.passes(1, 1, &[0, 0, 1]);
+    recorder.passes(2, 1, &[0, 1, 0, 1, 7]);
+}
+
+/// The named cases of an empty first pass, and each one's other side.
+fn first_passes(recorder: &mut Recorder) {
+    let schedule = [0, 0, 1, 2, 2, 1, 0, 2, 1];
+    for n in [0, 1, 2, 3, 4, 64, 65, u64::MAX] {
+        for place in (0..=10).chain([1 << 32, u64::MAX]) {
+            recorder.first_pass(n, place, &schedule);
+        }
+    }
+    for place in 0..=5 {
+        recorder.first_pass(2, place, &[0, 1, 2, 0, 1]);
+        recorder.first_pass(2, place, &[0, 1, 0, 1, 2]);
+        recorder.first_pass(2, place, &[255, 255, 0, 1, 0]);
+        recorder.first_pass(1, place, &[0, 0, 0, 0]);
+    }
+    let all = cycle(64, 129);
+    for place in [0, 1, 64, 65, 66, 128] {
+        recorder.first_pass(64, place, &all);
+        recorder.first_pass(63, place, &all);
+    }
+}
+
+/// 2, 3 and 10 of a shape, and their order.
+fn shapes(recorder: &mut Recorder) {
+    for shape in [0, 1, 2, 3, 4, 255, 256, u64::MAX] {
+        for n in [0, 1, 64, 65, 256, u64::MAX] {
+            let length = n.min(66);
+            for table in [0, length.saturating_sub(1), length, length + 1] {
+                recorder.shape(shape, n, table);
+            }
+        }
+    }
+    for table in [4_095, 4_096] {
+        recorder.shape(3, 64, table);
+    }
+}

@@ -1,0 +1,249 @@
+//! Random cases: scenes of every sort, and runs from fresh, continued and damaged states.
+
+use super::calls::{any_first_pass, any_passes, any_shape, misspelt};
+use super::damage::{damage, damage_for_a_while, near_the_limit, state_in_range};
+use super::TASK_COUNTS;
+use crate::machine::{ready, SYMMETRIC, TREE};
+use crate::passes::Passes;
+use crate::random::Random;
+use crate::recorder::Recorder;
+use crate::schedules;
+use crate::shapes::shape;
+
+/// Numbers around the ends of the ranges.
+const NEAR: [u64; 18] = [0, 1, 2, 3, 4, 5, 10, 11, 18, 19, 62, 63, 64, 65, 254, 255, 256, 257];
+
+/// A number around the end of a range, or the largest of all.
+pub fn near(random: &mut Random) -> u64 {
+    if random.once_in(20) {
+        u64::MAX
+    } else {
+        random.pick(&NEAR)
+    }
+}
+
+// ---- the stored random cases ----
+
+/// Runs of every kind and of the stored task counts, from fresh, continued and damaged states.
+pub fn stored_runs(recorder: &mut Recorder, random: &mut Random) {
+    for _ in 0..3 {
+        for kind in 0..=3 {
+            for n in TASK_COUNTS {
+                accepted_fresh(recorder, random, kind, n);
+                any_run(recorder, random, 160);
+                recorder.show();
+                any_run(recorder, random, 160);
+                recorder.show();
+                damaged_run(recorder, random);
+            }
+        }
+    }
+}
+
+/// Scenes of every sort.
+pub fn stored_scenes(recorder: &mut Recorder, random: &mut Random) {
+    for _ in 0..300 {
+        scene(recorder, random);
+    }
+}
+
+/// Damages one field, in or out of its range, and runs.
+fn damaged_run(recorder: &mut Recorder, random: &mut Random) {
+    damage(recorder, random);
+    recorder.ready();
+    any_run(recorder, random, 60);
+    recorder.show();
+}
+
+// ---- scenes ----
+
+/// At least so many random requests.
+pub fn requests(recorder: &mut Recorder, random: &mut Random, count: usize) {
+    while recorder.count() < count {
+        if random.once_in(400) {
+            long_schedule(recorder, random);
+        } else {
+            scene(recorder, random);
+        }
+    }
+}
+
+/// One random scene.
+fn scene(recorder: &mut Recorder, random: &mut Random) {
+    match random.below(16) {
+        0..=4 => life(recorder, random),
+        5..=7 => state_in_range(recorder, random),
+        8 | 9 => near_the_limit(recorder, random),
+        10 => any_fresh(recorder, random),
+        11 => any_passes(recorder, random),
+        12 => any_first_pass(recorder, random),
+        13 => any_shape(recorder, random),
+        14 => misspelt(recorder, random),
+        _ => many_turns(recorder, random),
+    }
+}
+
+/// A fresh state and some requests of it.
+fn life(recorder: &mut Recorder, random: &mut Random) {
+    let kind = random.below(4) as u8;
+    let n = any_task_count(random);
+    accepted_fresh(recorder, random, kind, n);
+    for _ in 0..random.length(3, 20) {
+        act(recorder, random);
+    }
+    recorder.show();
+}
+
+/// One request of the kept state.
+fn act(recorder: &mut Recorder, random: &mut Random) {
+    match random.below(12) {
+        0..=3 => turn_of_someone(recorder, random),
+        4 | 5 => turn_of_ready(recorder),
+        6 => recorder.ready(),
+        7 | 8 => any_run(recorder, random, 80),
+        9 | 10 => damage_for_a_while(recorder, random),
+        _ => recorder.show(),
+    }
+}
+
+/// A single turn, most often of a task.
+pub fn turn_of_someone(recorder: &mut Recorder, random: &mut Random) {
+    let n = recorder.n().max(1) as u64;
+    let task = if random.once_in(12) { near(random) } else { random.below(n) };
+    recorder.turn(task);
+}
+
+/// The turn of the task that ready names, if it names one.
+pub fn turn_of_ready(recorder: &mut Recorder) {
+    recorder.ready();
+    if let Ok(Some(task)) = ready(recorder.state()) {
+        recorder.turn(task as u64);
+    }
+}
+
+/// A schedule that may be as long as schedules can be, or too long.
+fn long_schedule(recorder: &mut Recorder, random: &mut Random) {
+    let kind = random.below(4) as u8;
+    let n = any_task_count(random);
+    accepted_fresh(recorder, random, kind, n);
+    let length = random.pick(&[5_000, 20_000, 65_535, 65_536, 65_537, 70_000, 70_001]);
+    let schedule = schedules::any(random, n, length);
+    recorder.run_all(&schedule[..length.min(65_536)]);
+    recorder.run(1, 2, &schedule);
+    recorder.ready();
+    recorder.show();
+    let enough = 2 * Passes::new(n, &schedule).count().min(1_000);
+    recorder.passes(n as u64, near_length(random, enough as u64), &schedule);
+    recorder.first_pass(n as u64, (length - random.length(0, 4 * n)) as u64, &schedule);
+}
+
+/// Single turns, enough of them for several rounds.
+fn many_turns(recorder: &mut Recorder, random: &mut Random) {
+    let kind = random.below(4) as u8;
+    let n = random.length(1, 6);
+    accepted_fresh(recorder, random, kind, n);
+    for _ in 0..random.length(20, 120) {
+        if random.once_in(3) {
+            turn_of_ready(recorder);
+        } else {
+            recorder.turn(random.below(n as u64));
+        }
+    }
+    recorder.show();
+}
+
+// ---- fresh states ----
+
+/// A task count, most often a small one.
+pub fn any_task_count(random: &mut Random) -> usize {
+    match random.below(4) {
+        0 => random.pick(&TASK_COUNTS),
+        1 => random.length(1, 64),
+        _ => random.length(1, 5),
+    }
+}
+
+/// A fresh state that is accepted.
+pub fn accepted_fresh(recorder: &mut Recorder, random: &mut Random, kind: u8, n: usize) {
+    let modulus = match kind {
+        SYMMETRIC => random.pick(&[3, 3, 4, 5, 7, 254, 255]),
+        _ => 0,
+    };
+    let parents = match kind {
+        TREE => any_parents(random, n),
+        _ => Vec::new(),
+    };
+    recorder.fresh(kind.into(), n as u64, modulus, &parents);
+}
+
+/// The parents of a shape or of a random tree.
+fn any_parents(random: &mut Random, n: usize) -> Vec<u8> {
+    let mut parents = vec![0; n];
+    if random.once_in(2) {
+        let _ = shape(random.below(4), n as u64, &mut parents);
+    } else {
+        for (task, parent) in parents.iter_mut().enumerate().skip(1) {
+            *parent = random.below(task as u64) as u8;
+        }
+    }
+    parents
+}
+
+/// A fresh state that may be refused.
+fn any_fresh(recorder: &mut Recorder, random: &mut Random) {
+    for _ in 0..random.length(1, 8) {
+        let kind = random.below(5);
+        let n = if random.once_in(3) { near(random) } else { random.below(7) };
+        let fits = if kind == 0 { 3 } else { 0 };
+        let modulus = if random.once_in(3) { near(random) } else { fits };
+        let fits = if kind == 3 { n.min(65) as usize } else { 0 };
+        let length = if random.once_in(3) { random.length(0, 5) } else { fits };
+        let mut parents = any_parents(random, length);
+        if length > 0 && random.once_in(2) {
+            let task = random.length(0, length - 1);
+            parents[task] = random.pick(&[0, 1, 2, task as u8, task as u8 + 1, 64, 255]);
+        }
+        recorder.fresh(kind, n, modulus, &parents);
+        recorder.ready();
+    }
+    recorder.show();
+}
+
+// ---- runs ----
+
+/// A run of the kept state; the schedule, the allowance or the log may be wrong.
+pub fn any_run(recorder: &mut Recorder, random: &mut Random, longest: usize) {
+    let n = recorder.n().clamp(1, 64);
+    let length = random.length(0, longest);
+    let mut schedule = schedules::any(random, n, length);
+    spoil(random, &mut schedule, n);
+    let length = length as u64;
+    let allowance = match random.below(8) {
+        0 => near(random),
+        1 => random.below(length + 1),
+        2 => length.saturating_sub(1),
+        3 => length + 1,
+        _ => length,
+    };
+    let log = 2 * allowance.min(length);
+    recorder.run(allowance, near_length(random, log), &schedule);
+}
+
+/// Now and then makes a turn or two name no task.
+pub fn spoil(random: &mut Random, schedule: &mut [u8], n: usize) {
+    while !schedule.is_empty() && random.once_in(12) {
+        let place = random.length(0, schedule.len() - 1);
+        schedule[place] = random.pick(&[n as u8, n as u8 + 1, 255]);
+    }
+}
+
+/// A buffer's length, most often just enough.
+pub fn near_length(random: &mut Random, enough: u64) -> u64 {
+    match random.below(12) {
+        0 => enough.saturating_sub(1),
+        1 => enough.saturating_sub(2),
+        2 => enough + 1,
+        3 => enough + random.below(9),
+        _ => enough,
+    }
+}

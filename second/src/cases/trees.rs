@@ -1,0 +1,36 @@
+//! Every tree shape for every N, each as a fresh tree's table, and runs of some of them.
+
+use super::TASK_COUNTS;
+use crate::machine::TREE;
+use crate::recorder::Recorder;
+use crate::schedules::cycle;
+use crate::shapes::shape;
+
+pub fn cases(recorder: &mut Recorder) {
+    for number in 0..=3 {
+        for n in 1..=64 {
+            table(recorder, number, n);
+        }
+    }
+}
+
+/// A shape's table, and the fresh tree with this table.
+fn table(recorder: &mut Recorder, number: u64, n: usize) {
+    let mut parents = vec![0; n];
+    let _ = shape(number, n as u64, &mut parents);
+    recorder.shape(number, n as u64, n as u64 + 2);
+    recorder.fresh(TREE.into(), n as u64, 0, &parents);
+    recorder.ready();
+    if TASK_COUNTS.contains(&n) {
+        recorder.run_all(&from_the_leaves(n));
+        recorder.show();
+        recorder.run_all(&cycle(n, 2 * n));
+        recorder.show();
+    }
+}
+
+/// The tasks from the last to the first, several turns each.
+fn from_the_leaves(n: usize) -> Vec<u8> {
+    let tasks = (0..n as u8).rev();
+    tasks.flat_map(|task| [task; 6]).collect()
+}

@@ -1,0 +1,525 @@
+//! The barrier machine: the state, the lines of the four kinds, the ranges of the fields,
+//! and the calls fresh, turn, ready and run. Every call changes the state in place.
+
+use super::refusal::{check_schedule, check_task_count, Refusal, MAX_TASKS};
+
+/// The four kinds.
+pub const SYMMETRIC: u8 = 0;
+pub const FETCH_AND_INCREMENT: u8 = 1;
+pub const RING: u8 = 2;
+pub const TREE: u8 = 3;
+
+/// The highest count.
+pub const MAX_COUNT: u32 = 1_000_000;
+
+/// The fields of one task. Those that its kind doesn't use are 0.
+#[derive(Clone, Copy, Debug, PartialEq, Eq)]
+pub struct Task {
+    /// Symmetric and tree: the tasks still to be dealt with, one bit each.
+    pub list: u64,
+    pub count: u32,
+    pub line: u8,
+    /// Symmetric: what the others read, and its value before the round.
+    pub tag: u8,
+    pub old: u8,
+    /// Symmetric and tree: the looked-at task.
+    pub looked: u8,
+    /// Fetch-and-increment: the sense that the task waits for.
+    pub aim: u8,
+    /// Ring: set and cleared by the task before.
+    pub toggle: u8,
+    /// Tree: set by the task, cleared by its parent.
+    pub flag: u8,
+}
+
+impl Task {
+    pub const ZERO: Task =
+        Task { list: 0, count: 0, line: 0, tag: 0, old: 0, looked: 0, aim: 0, toggle: 0, flag: 0 };
+}
+
+/// One barrier: its kind, N and R, what its tasks share, and tasks 0 to N - 1.
+#[derive(Clone, Copy, Debug, PartialEq, Eq)]
+pub struct State {
+    pub kind: u8,
+    pub n: u8,
+    pub modulus: u8,
+    /// Fetch-and-increment: the shared number and the shared bit.
+    pub arrivals: u8,
+    pub sense: u8,
+    /// Tree: each task's parent.
+    pub parents: [u8; MAX_TASKS],
+    pub tasks: [Task; MAX_TASKS],
+}
+
+impl State {
+    pub const ZERO: State = State {
+        kind: 0,
+        n: 0,
+        modulus: 0,
+        arrivals: 0,
+        sense: 0,
+        parents: [0; MAX_TASKS],
+        tasks: [Task::ZERO; MAX_TASKS],
+    };
+}
+
+/// What a turn that isn't refused did.
+#[derive(Clone, Copy, Debug, PartialEq, Eq)]
+pub enum Outcome {
+    Waited,
+    Moved,
+}
+
+// ---- fresh ----
+
+/// Makes the state fresh. Where this is refused, all fields are 0.
+pub fn fresh(
+    state: &mut State,
+    kind: u64,
+    n: u64,
+    modulus: u64,
+    parents: &[u8],
+) -> Result<(), Refusal> {
+    *state = State::ZERO;
+    check_fresh(kind, n, modulus, parents)?;
+    state.kind = kind as u8;
+    state.n = n as u8;
+    state.modulus = modulus as u8;
+    state.sense = u8::from(state.kind == FETCH_AND_INCREMENT);
+    state.parents[..parents.len()].copy_from_slice(parents);
+    for task in &mut state.tasks[..n as usize] {
+        task.line = 11;
+    }
+    Ok(())
+}
+
+/// Checks 2 to 6.
+fn check_fresh(kind: u64, n: u64, modulus: u64, parents: &[u8]) -> Result<(), Refusal> {
+    if kind > u64::from(TREE) {
+        return Err(Refusal::Kind);
+    }
+    let n = check_task_count(n)?;
+    let kind = kind as u8;
+    if !modulus_fits(kind, modulus) {
+        return Err(Refusal::Modulus);
+    }
+    if parents.len() != if kind == TREE { n } else { 0 } {
+        return Err(Refusal::TableLength);
+    }
+    if !parents_fit(parents) {
+        return Err(Refusal::Parent);
+    }
+    Ok(())
+}
+
+/// R is 3 to 255 for symmetric, and 0 for the other kinds.
+fn modulus_fits(kind: u8, modulus: u64) -> bool {
+    if kind == SYMMETRIC {
+        (3..=255).contains(&modulus)
+    } else {
+        modulus == 0
+    }
+}
+
+/// The root's entry is 0, and every other parent is a lower number than its child.
+fn parents_fit(parents: &[u8]) -> bool {
+    parents.iter().enumerate().all(|(task, &parent)| usize::from(parent) < task.max(1))
+}
+
+// ---- turn ----
+
+/// A turn: checks 7, 9 and 11, then carries out the task's line or waits at it.
+pub fn turn(state: &mut State, task: u64) -> Result<Outcome, Refusal> {
+    if !in_range(state) {
+        return Err(Refusal::Range);
+    }
+    if task >= u64::from(state.n) {
+        return Err(Refusal::Task);
+    }
+    step(state, task as usize)
+}
+
+/// A turn of one of the tasks of a state that is in range; it keeps the state in range.
+pub fn step(state: &mut State, task: usize) -> Result<Outcome, Refusal> {
+    check_step(state, task)?;
+    if must_wait(state, task) {
+        return Ok(Outcome::Waited);
+    }
+    match state.kind {
+        SYMMETRIC => symmetric(state, task),
+        FETCH_AND_INCREMENT => fetch_and_increment(state, task),
+        RING => ring(state, task),
+        _ => tree(state, task),
+    }
+    Ok(Outcome::Moved)
+}
+
+/// The half of 7 that is due at a turn, then 11.
+fn check_step(state: &State, task: usize) -> Result<(), Refusal> {
+    let own = &state.tasks[task];
+    if own.line != counting_line(state.kind) {
+        return Ok(());
+    }
+    if state.kind == FETCH_AND_INCREMENT && state.arrivals == state.n {
+        return Err(Refusal::Range);
+    }
+    if own.count == MAX_COUNT {
+        return Err(Refusal::CountLimit);
+    }
+    Ok(())
+}
+
+/// The line at which the kind's count rises.
+fn counting_line(kind: u8) -> u8 {
+    match kind {
+        SYMMETRIC => 12,
+        FETCH_AND_INCREMENT | RING => 13,
+        _ => 15,
+    }
+}
+
+/// Whether the task's line is an await whose condition is false.
+fn must_wait(state: &State, task: usize) -> bool {
+    let own = &state.tasks[task];
+    match (state.kind, own.line) {
+        (SYMMETRIC, 14) => state.tasks[usize::from(own.looked)].tag == own.old,
+        (FETCH_AND_INCREMENT, 16) => state.sense != own.aim,
+        (RING, 12) => own.toggle != nonzero(task),
+        (RING, 14) => own.toggle == nonzero(task),
+        (TREE, 14) => state.tasks[usize::from(own.looked)].flag != 1,
+        (TREE, 16) => task != 0 && own.flag != 0,
+        _ => false,
+    }
+}
+
+/// Carries out a line of the symmetric barrier.
+fn symmetric(state: &mut State, task: usize) {
+    let everyone = all_tasks(state.n);
+    let own = &mut state.tasks[task];
+    match own.line {
+        11 => own.line = 12,
+        12 => {
+            own.old = own.tag;
+            own.tag = ((u16::from(own.old) + 1) % u16::from(state.modulus)) as u8;
+            own.count += 1;
+            own.list = everyone;
+            own.line = 13;
+        }
+        13 => look(own, 11),
+        14 => take_off(own),
+        line => no_such_line(line),
+    }
+}
+
+/// Carries out a line of the fetch-and-increment barrier.
+fn fetch_and_increment(state: &mut State, task: usize) {
+    let own = &mut state.tasks[task];
+    match own.line {
+        11 => own.line = 12,
+        12 => {
+            own.aim = 1 - state.sense;
+            own.line = 13;
+        }
+        13 => {
+            let before = state.arrivals;
+            state.arrivals += 1;
+            own.count += 1;
+            own.line = if before == state.n - 1 { 14 } else { 16 };
+        }
+        14 => {
+            state.arrivals = 0;
+            own.line = 15;
+        }
+        15 => {
+            state.sense = own.aim;
+            own.line = 11;
+        }
+        16 => own.line = 11,
+        line => no_such_line(line),
+    }
+}
+
+/// Carries out a line of the ring barrier.
+fn ring(state: &mut State, task: usize) {
+    let next = if task + 1 < usize::from(state.n) { task + 1 } else { 0 };
+    match state.tasks[task].line {
+        11 => state.tasks[task].line = 12,
+        12 => state.tasks[task].line = 13,
+        13 => {
+            state.tasks[next].toggle = 1;
+            state.tasks[task].count += 1;
+            state.tasks[task].line = 14;
+        }
+        14 => state.tasks[task].line = 15,
+        15 => {
+            state.tasks[next].toggle = 0;
+            state.tasks[task].line = 11;
+        }
+        line => no_such_line(line),
+    }
+}
+
+/// Carries out a line of the tree barrier.
+fn tree(state: &mut State, task: usize) {
+    match state.tasks[task].line {
+        11 => state.tasks[task].line = 12,
+        12 => list_children(state, task, 13),
+        13 => look(&mut state.tasks[task], 15),
+        14 => take_off(&mut state.tasks[task]),
+        15 => {
+            let own = &mut state.tasks[task];
+            if task != 0 {
+                own.flag = 1;
+            }
+            own.count += 1;
+            own.line = 16;
+        }
+        16 => state.tasks[task].line = 17,
+        17 => list_children(state, task, 18),
+        18 => release(state, task),
+        line => no_such_line(line),
+    }
+}
+
+/// Looks at the least task on the list, or leaves the loop for the line given if it is empty.
+fn look(own: &mut Task, exit: u8) {
+    if own.list == 0 {
+        own.line = exit;
+    } else {
+        own.looked = least(own.list) as u8;
+        own.line = 14;
+    }
+}
+
+/// Takes the looked-at task off the list and goes back to look for another.
+fn take_off(own: &mut Task) {
+    own.list &= !(1 << own.looked);
+    own.line = 13;
+}
+
+/// Lists the task's own children and goes to the line given.
+fn list_children(state: &mut State, task: usize, line: u8) {
+    state.tasks[task].list = children(state, task);
+    state.tasks[task].line = line;
+}
+
+/// Line 18 of the tree: clears the least listed child's flag, or ends the round.
+fn release(state: &mut State, task: usize) {
+    let own = &mut state.tasks[task];
+    if own.list == 0 {
+        own.line = 11;
+        return;
+    }
+    let child = least(own.list);
+    own.list &= !(1 << child);
+    state.tasks[child].flag = 0;
+}
+
+/// A state in range has no line but its kind's.
+fn no_such_line(line: u8) {
+    unreachable!("line {line}");
+}
+
+/// nz of the ring: 1 for every task but 0.
+fn nonzero(task: usize) -> u8 {
+    u8::from(task != 0)
+}
+
+/// The least task on a list that isn't empty.
+fn least(list: u64) -> usize {
+    list.trailing_zeros() as usize
+}
+
+/// The list of tasks 0 to n - 1.
+fn all_tasks(n: u8) -> u64 {
+    u64::MAX >> (MAX_TASKS as u32 - u32::from(n))
+}
+
+/// The list of a task's children; each is a higher number than the task.
+fn children(state: &State, task: usize) -> u64 {
+    let mut list = 0;
+    for child in task + 1..usize::from(state.n) {
+        list |= u64::from(usize::from(state.parents[child]) == task) << child;
+    }
+    list
+}
+
+// ---- field ranges ----
+
+/// Whether every field of the state is in range.
+pub fn in_range(state: &State) -> bool {
+    if !shared_in_range(state) {
+        return false;
+    }
+    let n = usize::from(state.n);
+    let highest = highest_fields(state);
+    let lists = highest_lists(state);
+    let used = state.tasks[..n].iter().zip(&lists);
+    used.into_iter().all(|(task, &list)| task_in_range(task, &highest, list))
+        && state.tasks[n..].iter().all(|task| *task == Task::ZERO)
+}
+
+/// The range of every field that isn't a task's.
+fn shared_in_range(state: &State) -> bool {
+    if state.kind > TREE || check_task_count(u64::from(state.n)).is_err() {
+        return false;
+    }
+    let (arrivals, sense) = match state.kind {
+        FETCH_AND_INCREMENT => (state.n, 1),
+        _ => (0, 0),
+    };
+    let entries = match state.kind {
+        TREE => usize::from(state.n),
+        _ => 0,
+    };
+    modulus_fits(state.kind, u64::from(state.modulus))
+        && state.arrivals <= arrivals
+        && state.sense <= sense
+        && parents_fit(&state.parents[..entries])
+        && state.parents[entries..].iter().all(|&parent| parent == 0)
+}
+
+/// The highest value of each field of a task but its list; 0 where the kind doesn't use it.
+fn highest_fields(state: &State) -> Task {
+    let mut highest = Task::ZERO;
+    highest.count = MAX_COUNT;
+    match state.kind {
+        SYMMETRIC => {
+            highest.line = 14;
+            highest.tag = state.modulus - 1;
+            highest.old = state.modulus - 1;
+            highest.looked = state.n - 1;
+        }
+        FETCH_AND_INCREMENT => {
+            highest.line = 16;
+            highest.aim = 1;
+        }
+        RING => {
+            highest.line = 15;
+            highest.toggle = 1;
+        }
+        _ => {
+            highest.line = 18;
+            highest.looked = state.n - 1;
+            highest.flag = 1;
+        }
+    }
+    highest
+}
+
+/// The tasks that each task's list may hold: all of them, its children, or none.
+fn highest_lists(state: &State) -> [u64; MAX_TASKS] {
+    let mut lists = [0; MAX_TASKS];
+    match state.kind {
+        SYMMETRIC => lists = [all_tasks(state.n); MAX_TASKS],
+        TREE => {
+            for child in 1..usize::from(state.n) {
+                lists[usize::from(state.parents[child])] |= 1 << child;
+            }
+        }
+        _ => {}
+    }
+    lists
+}
+
+/// Whether every field of a task is in range.
+fn task_in_range(task: &Task, highest: &Task, list: u64) -> bool {
+    (11..=highest.line).contains(&task.line)
+        && task.count <= highest.count
+        && task.tag <= highest.tag
+        && task.old <= highest.old
+        && task.looked <= highest.looked
+        && task.aim <= highest.aim
+        && task.toggle <= highest.toggle
+        && task.flag <= highest.flag
+        && task.list & !list == 0
+}
+
+// ---- ready ----
+
+/// The least task whose turn would answer moved, if there is one.
+pub fn ready(state: &State) -> Result<Option<usize>, Refusal> {
+    if !in_range(state) {
+        return Err(Refusal::Range);
+    }
+    let moves = |task: &usize| check_step(state, *task).is_ok() && !must_wait(state, *task);
+    Ok((0..usize::from(state.n)).find(moves))
+}
+
+// ---- run ----
+
+/// How a run ended.
+#[derive(Clone, Copy, Debug, PartialEq, Eq)]
+pub enum Ending {
+    /// Every turn of the schedule was made.
+    Done,
+    /// The allowance is used up and the schedule is longer.
+    Spent,
+    /// A turn was refused, 7 or 11; the turns before it stand.
+    Stopped(Refusal),
+    /// The whole run was refused.
+    Refused(Refusal),
+}
+
+/// What a run answers.
+#[derive(Clone, Debug, PartialEq, Eq)]
+pub struct Report {
+    pub ending: Ending,
+    pub turns: usize,
+    pub moves: [u32; MAX_TASKS],
+    pub waits: [u32; MAX_TASKS],
+}
+
+impl Report {
+    /// A report of no turns.
+    fn new(ending: Ending) -> Report {
+        Report { ending, turns: 0, moves: [0; MAX_TASKS], waits: [0; MAX_TASKS] }
+    }
+
+    /// Counts one turn of a task.
+    fn count(&mut self, task: usize, outcome: Outcome) {
+        self.turns += 1;
+        match outcome {
+            Outcome::Moved => self.moves[task] += 1,
+            Outcome::Waited => self.waits[task] += 1,
+        }
+    }
+}
+
+/// A run: makes the schedule's turns as far as the allowance goes and logs two bytes for each.
+pub fn run(state: &mut State, schedule: &[u8], allowance: u64, log: &mut [u8]) -> Report {
+    let limit = match check_run(state, schedule, allowance, log) {
+        Ok(limit) => limit,
+        Err(refusal) => return Report::new(Ending::Refused(refusal)),
+    };
+    let whole = limit == schedule.len();
+    let mut report = Report::new(if whole { Ending::Done } else { Ending::Spent });
+    for (&task, entry) in schedule[..limit].iter().zip(log.chunks_exact_mut(2)) {
+        let task = usize::from(task);
+        let line = state.tasks[task].line;
+        match step(state, task) {
+            Ok(outcome) => {
+                entry.copy_from_slice(&[line, u8::from(outcome == Outcome::Moved)]);
+                report.count(task, outcome);
+            }
+            Err(refusal) => {
+                report.ending = Ending::Stopped(refusal);
+                break;
+            }
+        }
+    }
+    report
+}
+
+/// Checks 7 to 10 of a run. Gives the most turns that the run can make.
+fn check_run(state: &State, schedule: &[u8], allowance: u64, log: &[u8]) -> Result<usize, Refusal> {
+    if !in_range(state) {
+        return Err(Refusal::Range);
+    }
+    check_schedule(usize::from(state.n), schedule)?;
+    let limit = allowance.min(schedule.len() as u64) as usize;
+    if log.len() < 2 * limit {
+        return Err(Refusal::Buffer);
+    }
+    Ok(limit)
+}

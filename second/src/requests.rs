@@ -1,0 +1,277 @@
+//! The replay: reads request lines, keeps one state, and gives one answer line for each.
+
+use super::machine::{fresh, ready, run, turn, Ending, Outcome, Report, State, Task};
+use super::passes::{first_pass, passes};
+use super::shapes::shape;
+use std::fmt::{Display, Write};
+
+/// The most bytes of a request line, its line feed left out.
+pub const MAX_LINE: usize = 1_048_576;
+
+/// The most digits of a number.
+const MAX_DIGITS: usize = 20;
+
+/// The most entries of each part of a request.
+const MAX_REQUEST_TURNS: usize = 70_000;
+const MAX_REQUEST_PARENTS: usize = 4_096;
+const MAX_LOG: u64 = 131_072;
+const MAX_LIST: u64 = 131_072;
+const MAX_TABLE: u64 = 4_096;
+
+/// The answer to a line that is no request.
+const BAD_LINE: &str = "bad line";
+
+/// A replay with the state it keeps.
+pub struct Replay {
+    state: State,
+}
+
+/// A replay that begins with a state of zeros.
+impl Default for Replay {
+    fn default() -> Replay {
+        Replay { state: State::ZERO }
+    }
+}
+
+impl Replay {
+    /// The kept state.
+    pub fn state(&self) -> &State {
+        &self.state
+    }
+
+    /// The answer to one line; the line and the answer are without a line feed.
+    pub fn answer(&mut self, line: &[u8]) -> String {
+        let answer = numbers(line).and_then(|numbers| self.request(&numbers));
+        answer.unwrap_or_else(|| BAD_LINE.to_string())
+    }
+
+    /// The answer to one request, or none if there is no such request.
+    fn request(&mut self, numbers: &[u64]) -> Option<String> {
+        match numbers {
+            [1, kind, n, modulus, parents @ ..] => self.fresh(*kind, *n, *modulus, parents),
+            [2, task] => Some(self.turn(*task)),
+            [3] => Some(self.ready()),
+            [4, allowance, length, turns @ ..] => self.run(*allowance, *length, turns),
+            [5] => Some(self.show()),
+            [6, field, task, value] => self.change(*field, *task, *value),
+            [7, n, length, turns @ ..] => answer_passes(*n, *length, turns),
+            [8, n, place, turns @ ..] => answer_first_pass(*n, *place, turns),
+            [9, shape, n, length] => answer_shape(*shape, *n, *length),
+            _ => None,
+        }
+    }
+
+    /// Request 1.
+    fn fresh(&mut self, kind: u64, n: u64, modulus: u64, parents: &[u64]) -> Option<String> {
+        let parents = bytes(parents, MAX_REQUEST_PARENTS)?;
+        Some(match fresh(&mut self.state, kind, n, modulus, &parents) {
+            Ok(()) => "0".to_string(),
+            Err(refusal) => refusal.to_string(),
+        })
+    }
+
+    /// Request 2.
+    fn turn(&mut self, task: u64) -> String {
+        match turn(&mut self.state, task) {
+            Ok(Outcome::Moved) => "1".to_string(),
+            Ok(Outcome::Waited) => "0".to_string(),
+            Err(refusal) => refusal.to_string(),
+        }
+    }
+
+    /// Request 3.
+    fn ready(&self) -> String {
+        match ready(&self.state) {
+            Ok(Some(task)) => format!("task {task}"),
+            Ok(None) => "none".to_string(),
+            Err(refusal) => refusal.to_string(),
+        }
+    }
+
+    /// Request 4.
+    fn run(&mut self, allowance: u64, length: u64, turns: &[u64]) -> Option<String> {
+        let schedule = bytes(turns, MAX_REQUEST_TURNS)?;
+        let mut log = lent(length, MAX_LOG, 255_u8)?;
+        let report = run(&mut self.state, &schedule, allowance, &mut log);
+        Some(report_line(&report, &log))
+    }
+
+    /// Request 5.
+    fn show(&self) -> String {
+        let mut line = String::new();
+        append(&mut line, &shared_fields(&self.state));
+        append(&mut line, &self.state.parents);
+        for task in &self.state.tasks {
+            append(&mut line, &task_fields(task));
+        }
+        line
+    }
+
+    /// Request 6.
+    fn change(&mut self, field: u64, task: u64, value: u64) -> Option<String> {
+        let task = usize::try_from(task).ok()?;
+        match field {
+            0..=8 => change_task(self.state.tasks.get_mut(task)?, field, value)?,
+            9..=13 if task == 0 => *shared_field(&mut self.state, field) = byte(value)?,
+            14 => *self.state.parents.get_mut(task)? = byte(value)?,
+            _ => return None,
+        }
+        Some("ok".to_string())
+    }
+}
+
+/// The fields of a task in the order of requests 5 and 6.
+fn task_fields(task: &Task) -> [u64; 9] {
+    [
+        task.line.into(),
+        task.count.into(),
+        task.tag.into(),
+        task.old.into(),
+        task.list,
+        task.looked.into(),
+        task.aim.into(),
+        task.toggle.into(),
+        task.flag.into(),
+    ]
+}
+
+/// The value of a field by its number in request 6.
+pub fn field_value(state: &State, field: u64, task: usize) -> u64 {
+    match field {
+        0..=8 => task_fields(&state.tasks[task])[field as usize],
+        9..=13 => shared_fields(state)[field as usize - 9].into(),
+        _ => state.parents[task].into(),
+    }
+}
+
+/// The fields that aren't a task's, but the parents, in the order of requests 5 and 6.
+fn shared_fields(state: &State) -> [u8; 5] {
+    [state.kind, state.n, state.modulus, state.arrivals, state.sense]
+}
+
+/// Changes one of fields 0 to 8 if the value fits its type.
+fn change_task(task: &mut Task, field: u64, value: u64) -> Option<()> {
+    match field {
+        0 => task.line = byte(value)?,
+        1 => task.count = u32::try_from(value).ok()?,
+        2 => task.tag = byte(value)?,
+        3 => task.old = byte(value)?,
+        4 => task.list = value,
+        5 => task.looked = byte(value)?,
+        6 => task.aim = byte(value)?,
+        7 => task.toggle = byte(value)?,
+        _ => task.flag = byte(value)?,
+    }
+    Some(())
+}
+
+/// One of fields 9 to 13.
+fn shared_field(state: &mut State, field: u64) -> &mut u8 {
+    match field {
+        9 => &mut state.kind,
+        10 => &mut state.n,
+        11 => &mut state.modulus,
+        12 => &mut state.arrivals,
+        _ => &mut state.sense,
+    }
+}
+
+/// Request 7.
+fn answer_passes(n: u64, length: u64, turns: &[u64]) -> Option<String> {
+    let schedule = bytes(turns, MAX_REQUEST_TURNS)?;
+    let mut pairs = lent(length, MAX_LIST, u32::MAX)?;
+    let mut line = match passes(n, &schedule, &mut pairs) {
+        Ok(number) => number.to_string(),
+        Err(refusal) => refusal.to_string(),
+    };
+    append(&mut line, &pairs);
+    Some(line)
+}
+
+/// Request 8.
+fn answer_first_pass(n: u64, place: u64, turns: &[u64]) -> Option<String> {
+    let schedule = bytes(turns, MAX_REQUEST_TURNS)?;
+    let pass = first_pass(n, &schedule, place);
+    let mut line = pass.len().to_string();
+    append(&mut line, pass);
+    Some(line)
+}
+
+/// Request 9.
+fn answer_shape(number: u64, n: u64, length: u64) -> Option<String> {
+    let mut table = lent(length, MAX_TABLE, 255_u8)?;
+    let mut line = match shape(number, n, &mut table) {
+        Ok(()) => "ok".to_string(),
+        Err(refusal) => refusal.to_string(),
+    };
+    append(&mut line, &table);
+    Some(line)
+}
+
+/// The answer line of a run.
+fn report_line(report: &Report, log: &[u8]) -> String {
+    let mut line = ending(report.ending);
+    append(&mut line, &[report.turns]);
+    append(&mut line, &report.moves);
+    append(&mut line, &report.waits);
+    append(&mut line, log);
+    line
+}
+
+/// The words of an ending.
+fn ending(ending: Ending) -> String {
+    match ending {
+        Ending::Done => "done".to_string(),
+        Ending::Spent => "spent".to_string(),
+        Ending::Stopped(refusal) => format!("stopped {}", refusal.number()),
+        Ending::Refused(refusal) => refusal.to_string(),
+    }
+}
+
+/// The numbers of a line, or none if it isn't a line of numbers.
+fn numbers(line: &[u8]) -> Option<Vec<u64>> {
+    if line.len() > MAX_LINE {
+        return None;
+    }
+    line.split(|&byte| byte == b' ').map(number).collect()
+}
+
+/// The number that the digits write, or none if there are other bytes, none or too many of them,
+/// or the number is 2^64 or more.
+fn number(digits: &[u8]) -> Option<u64> {
+    if digits.is_empty() || digits.len() > MAX_DIGITS {
+        return None;
+    }
+    digits.iter().try_fold(0_u64, |number, digit| {
+        let digit = digit.is_ascii_digit().then(|| u64::from(digit - b'0'))?;
+        number.checked_mul(10)?.checked_add(digit)
+    })
+}
+
+/// The number as a byte, if it fits.
+fn byte(number: u64) -> Option<u8> {
+    u8::try_from(number).ok()
+}
+
+/// The numbers as bytes, if they fit and aren't too many.
+fn bytes(numbers: &[u64], most: usize) -> Option<Vec<u8>> {
+    if numbers.len() > most {
+        return None;
+    }
+    numbers.iter().map(|&number| byte(number)).collect()
+}
+
+/// A buffer to lend, filled with one value, if it isn't too long.
+fn lent<T: Clone>(length: u64, most: u64, value: T) -> Option<Vec<T>> {
+    (length <= most).then(|| vec![value; length as usize])
+}
+
+/// Appends values to a line, with a single space between any two.
+fn append<T: Display>(line: &mut String, values: &[T]) {
+    for value in values {
+        if !line.is_empty() {
+            line.push(' ');
+        }
+        let _ = write!(line, "{value}");
+    }
+}

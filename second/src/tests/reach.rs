@@ -1,0 +1,143 @@
+//! All states that small barriers reach, with the least count taken off every count. In each:
+//! the counts differ by at most one, a task at 11 isn't ahead, somebody can move, and a few
+//! passes raise the least count.
+
+use super::begin;
+use crate::machine::{in_range, ready, step, turn, Outcome, State};
+use crate::machine::{FETCH_AND_INCREMENT, RING, SYMMETRIC, TREE};
+use std::collections::HashSet;
+
+/// The fields that can differ between the reached states of one barrier.
+fn key(state: &State) -> Vec<u8> {
+    let n = usize::from(state.n);
+    let mut key = vec![state.arrivals, state.sense];
+    for task in &state.tasks[..n] {
+        key.extend([task.line, task.count as u8, task.tag, task.old, task.list as u8]);
+        key.extend([task.looked, task.aim, task.toggle, task.flag]);
+    }
+    key
+}
+
+fn least_count(state: &State) -> u32 {
+    let counts = state.tasks[..usize::from(state.n)].iter().map(|task| task.count);
+    counts.min().unwrap_or(0)
+}
+
+/// Takes the least count off every count.
+fn lower(state: &mut State) {
+    let least = least_count(state);
+    for task in &mut state.tasks[..usize::from(state.n)] {
+        task.count -= least;
+    }
+}
+
+/// Visits every state reached from the fresh one. Gives their number.
+fn visit(fresh: State) -> usize {
+    let mut seen = HashSet::from([key(&fresh)]);
+    let mut open = vec![fresh];
+    while let Some(state) = open.pop() {
+        check_barrier(&state);
+        check_ready(&state);
+        check_progress(state);
+        for task in 0..usize::from(state.n) {
+            let mut next = turned(state, task);
+            lower(&mut next);
+            if seen.insert(key(&next)) {
+                open.push(next);
+            }
+        }
+    }
+    seen.len()
+}
+
+/// The barrier condition.
+fn check_barrier(state: &State) {
+    assert!(in_range(state), "{state:?}");
+    for task in &state.tasks[..usize::from(state.n)] {
+        assert!(task.count <= 1, "{state:?}");
+        assert!(task.line != 11 || task.count == 0, "{state:?}");
+    }
+}
+
+/// Ready names the least task whose turn moves, and there is one.
+fn check_ready(state: &State) {
+    let moves = |&task: &usize| turn(&mut state.clone(), task as u64) == Ok(Outcome::Moved);
+    let least = (0..usize::from(state.n)).find(moves);
+    assert!(least.is_some(), "{state:?}");
+    assert_eq!(ready(state), Ok(least), "{state:?}");
+}
+
+/// In enough passes every task makes a whole round.
+fn check_progress(mut state: State) {
+    let n = usize::from(state.n);
+    let before = least_count(&state);
+    for _ in 0..20 * n {
+        for task in (0..n).rev() {
+            let _ = step(&mut state, task);
+        }
+    }
+    assert!(least_count(&state) > before, "{state:?}");
+}
+
+/// The state after a turn. A wait changes nothing; a move leaves the other tasks' lines, counts
+/// and lists alone.
+fn turned(state: State, task: usize) -> State {
+    let mut next = state;
+    let outcome = turn(&mut next, task as u64);
+    assert!(outcome.is_ok(), "{state:?}");
+    if outcome == Ok(Outcome::Waited) {
+        assert_eq!(next, state);
+        return next;
+    }
+    assert!(next.tasks[task].line != state.tasks[task].line || next.tasks[task].line == 18);
+    for other in (0..64).filter(|&other| other != task) {
+        let (before, after) = (&state.tasks[other], &next.tasks[other]);
+        assert_eq!((before.line, before.count), (after.line, after.count));
+        assert_eq!((before.list, before.looked), (after.list, after.looked));
+        assert_eq!((before.tag, before.old, before.aim), (after.tag, after.old, after.aim));
+    }
+    next
+}
+
+#[test]
+fn symmetric() {
+    for (n, modulus) in [(1, 3), (1, 4), (2, 3), (2, 4), (2, 5), (3, 3), (3, 4), (4, 3)] {
+        assert!(visit(begin(SYMMETRIC, n, modulus, &[])) > 4);
+    }
+}
+
+#[test]
+fn fetch_and_increment() {
+    for n in 1..=5 {
+        assert!(visit(begin(FETCH_AND_INCREMENT, n, 0, &[])) > 4);
+    }
+}
+
+#[test]
+fn ring() {
+    for n in 1..=6 {
+        assert!(visit(begin(RING, n, 0, &[])) > 4);
+    }
+}
+
+/// All parent tables for n tasks.
+fn all_tables(n: usize) -> Vec<Vec<u8>> {
+    let mut tables = vec![vec![0]];
+    for task in 1..n {
+        let longer = |table: &Vec<u8>| {
+            let table = table.clone();
+            (0..task as u8).map(move |parent| [&table[..], &[parent]].concat())
+        };
+        tables = tables.iter().flat_map(longer).collect();
+    }
+    tables
+}
+
+#[test]
+fn tree() {
+    for n in 1..=4 {
+        for table in all_tables(n) {
+            assert!(visit(begin(TREE, n as u64, 0, &table)) > 4);
+        }
+    }
+}

@@ -1,0 +1,206 @@
+//! The texts of the sheet and of the replay.
+
+use crate::cases::malformed::first_pass_line;
+use crate::requests::{Replay, MAX_LINE};
+use crate::serve;
+use crate::sheet::sheet;
+
+#[test]
+fn sheet_of_the_scope() {
+    let expected = "task line count moves waits\n0 11 1 4 1\n1 11 1 5 0\npasses 2 least 1\n";
+    assert_eq!(sheet(b"1 2 0 0 0 0 0 1 1 1 1 1 0"), expected);
+    assert_eq!(sheet(b"\n 1\n\n2  0 0 0 0 00 1 1 1 1 1 00000\n"), expected);
+}
+
+#[test]
+fn refused_sheets() {
+    for (text, expected) in [
+        ("", "refused 1\n"),
+        ("1 2", "refused 1\n"),
+        ("1 2 0\t0", "refused 1\n"),
+        ("1 2 0\r\n", "refused 1\n"),
+        ("1 2 000000", "refused 1\n"),
+        ("1 2 0 100000", "refused 1\n"),
+        ("4 0 0", "refused 2\n"),
+        ("1 0 0", "refused 3\n"),
+        ("3 65 0 0", "refused 3\n"),
+        ("0 1 2", "refused 4\n"),
+        ("0 1 256", "refused 4\n"),
+        ("3 2 0 0", "refused 5\n"),
+        ("3 2 0 999", "refused 5\n"),
+        ("3 2 0 0 256", "refused 6\n"),
+        ("3 2 0 256 0", "refused 6\n"),
+        ("3 2 0 0 1 9", "refused 6\n"),
+        ("3 2 0 0 0 1 2", "refused 9 place 1\n"),
+        ("1 2 0 0 0 0 1 2 3", "refused 9 place 4\n"),
+        ("1 2 0 0 256", "refused 9 place 1\n"),
+        ("1 2 0 99999", "refused 9 place 0\n"),
+    ] {
+        assert_eq!(sheet(text.as_bytes()), expected, "{text}");
+    }
+}
+
+#[test]
+fn empty_sheets() {
+    let expected = "task line count moves waits\n0 11 0 0 0\npasses 0 least 0\n";
+    assert_eq!(sheet(b"3 1 0 0"), expected);
+    assert_eq!(sheet(b"2 1 0"), expected);
+}
+
+#[test]
+fn longest_sheet() {
+    let mut text = b"2 1 0".to_vec();
+    text.resize(65_536, b' ');
+    assert!(sheet(&text).starts_with("task"));
+    text.push(b' ');
+    assert_eq!(sheet(&text), "refused 1\n");
+}
+
+/// Answers the requests one after another.
+fn check_replay(cases: &[(&str, &str)]) {
+    let mut replay = Replay::default();
+    for (request, expected) in cases {
+        assert_eq!(replay.answer(request.as_bytes()), *expected, "{request}");
+    }
+}
+
+#[test]
+fn requests_of_a_state() {
+    let zeros = vec!["0"; 5 + 64 + 64 * 9].join(" ");
+    let mut fields = vec!["0"; 5 + 64 + 64 * 9];
+    for (place, value) in [(0, "1"), (1, "2"), (4, "1"), (69, "12"), (78, "11")] {
+        fields[place] = value;
+    }
+    let counts = format!("1 {}", vec!["0"; 127].join(" "));
+    let none = vec!["0"; 128].join(" ");
+    check_replay(&[
+        ("5", &zeros),
+        ("2 0", "refused 7"),
+        ("3", "refused 7"),
+        ("1 1 2 3", "refused 4"),
+        ("5", &zeros),
+        ("1 1 2 0", "0"),
+        ("4 1 4 0 1", &format!("spent 1 {counts} 11 1 255 255")),
+        ("5", &fields.join(" ")),
+        ("4 2 3 0 1", &format!("refused 10 0 {none} 255 255 255")),
+        ("4 2 1 0 2", &format!("refused 9 place 1 0 {none} 255")),
+        ("2 2", "refused 9"),
+        ("3", "task 0"),
+        ("6 12 0 2", "ok"),
+        ("2 0", "1"),
+        ("2 0", "refused 7"),
+        ("3", "task 1"),
+        ("4 9 2 0", &format!("stopped 7 0 {none} 255 255")),
+        ("4 0 0", &format!("done 0 {none}")),
+    ]);
+}
+
+#[test]
+fn requests_of_the_other_calls() {
+    check_replay(&[
+        ("7 2 5 0 0 1 0 1 1", "2 0 3 3 2 4294967295"),
+        ("7 2 3 0 0 1 0 1 1", "refused 10 4294967295 4294967295 4294967295"),
+        ("7 2 1 0 2", "refused 9 place 1 4294967295"),
+        ("7 65 0", "refused 3"),
+        ("8 2 1 0 0 1 0", "2 0 1"),
+        ("8 2 3 0 0 1 0", "0"),
+        ("9 2 6 7", "ok 0 0 0 1 1 2 255"),
+        ("9 2 6 5", "refused 10 255 255 255 255 255"),
+        ("9 4 0 1", "refused 2 255"),
+    ]);
+}
+
+#[test]
+fn bad_lines() {
+    for line in [
+        "",
+        " ",
+        " 3",
+        "3 ",
+        "2  0",
+        "3\r",
+        "a",
+        "-1",
+        "0",
+        "10",
+        "2",
+        "2 0 0",
+        "3 0",
+        "1 1 2",
+        "4 0",
+        "5 0",
+        "6 0 0",
+        "6 0 0 1 1",
+        "7 1",
+        "8 1",
+        "9 0 1",
+        "9 0 1 1 1",
+        "6 15 0 0",
+        "6 0 64 1",
+        "6 9 1 1",
+        "6 14 64 0",
+        "6 0 0 256",
+        "6 1 0 4294967296",
+        "6 14 0 256",
+        "6 4 0 18446744073709551616",
+        "000000000000000000003",
+        "1 3 2 0 0 256",
+        "4 1 2 256",
+        "7 1 2 256",
+        "8 1 2 256",
+        "4 0 131073",
+        "7 1 131073",
+        "9 0 1 4097",
+    ] {
+        check_replay(&[(line, "bad line")]);
+    }
+    check_replay(&[
+        ("00000000000000000003", "refused 7"),
+        ("2 18446744073709551615", "refused 7"),
+        ("6 4 63 18446744073709551615", "ok"),
+        ("6 1 63 4294967295", "ok"),
+        ("6 14 63 255", "ok"),
+    ]);
+}
+
+#[test]
+fn longest_requests() {
+    let turns = |length: usize| vec!["0"; length].join(" ");
+    let none = vec!["0"; 129].join(" ");
+    check_replay(&[
+        ("1 2 1 0", "0"),
+        (&format!("4 0 0 {}", turns(70_000)), &format!("refused 8 {none}")),
+        (&format!("4 0 0 {}", turns(70_001)), "bad line"),
+        (&format!("8 1 69999 {}", turns(70_000)), "1 0"),
+        (&format!("8 1 70000 {}", turns(70_001)), "bad line"),
+        (&format!("1 3 64 0 {}", turns(4_096)), "refused 5"),
+        (&format!("1 3 64 0 {}", turns(4_097)), "bad line"),
+    ]);
+}
+
+/// What the replay writes for an input.
+fn served(input: &[u8]) -> String {
+    let mut output = Vec::new();
+    assert!(serve::answer(input, &mut output).is_ok());
+    String::from_utf8(output).unwrap_or_default()
+}
+
+#[test]
+fn ends_of_lines() {
+    assert_eq!(served(b""), "");
+    assert_eq!(served(b"\n"), "bad line\n");
+    assert_eq!(served(b"3"), "refused 7\n");
+    assert_eq!(served(b"3\n"), "refused 7\n");
+    assert_eq!(served(b"3\n\n3"), "refused 7\nbad line\nrefused 7\n");
+}
+
+#[test]
+fn longest_line() {
+    let longest = first_pass_line(MAX_LINE);
+    let longer = first_pass_line(MAX_LINE + 1);
+    assert_eq!((longest.len(), longer.len()), (1_048_576, 1_048_577));
+    assert_eq!(served(longest.as_bytes()), "1 0\n");
+    assert_eq!(served(longer.as_bytes()), "bad line\n");
+    let text = [&longer[..], "3", &longest[..], &longer[..], ""].join("\n");
+    assert_eq!(served(text.as_bytes()), "bad line\nrefused 7\n1 0\nbad line\n");
+}
