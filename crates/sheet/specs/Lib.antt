@@ -1,0 +1,2 @@
+-- What reading standard input promises.
+pub mod Read

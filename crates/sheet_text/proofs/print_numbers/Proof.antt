@@ -1,0 +1,126 @@
+-- `print_numbers` meets its contract: the bytes of the numbers are refused, or run, as the numbers are.
+use mathlib.Core.Path.{_≡_, sym, ap, _∙_}
+use mathlib.Core.List.{List, _++_, map}
+use mathlib.Core.Logic.{_≢_}
+use Prim.Native.Nat.{ℕ, _-_, min, _≤_}
+use native.Mathlib.Omega.{arith}
+use borrow.Author.Needs.{needs}
+use lib.ListN.{length, take, drop, getD, replicate, length-drop, length-map, length-replicate}
+use lib.Seq.{take-all, length-take-le}
+use Rattle.machine.specs.declared.Fresh.{Fresh}
+use Rattle.machine.specs.Fresh.{freshReason, freshOf}
+use Rattle.machine.specs.FreshLaws.{fresh-accepted, fresh-valid}
+use Rattle.machine.specs.Range.{Valid}
+use Rattle.sheet_text.specs.Read.{Five, parentCount, fiveOf, readNumbers}
+use Rattle.sheet_text.specs.Print.{printed, refusalOf}
+use Rattle.sheet_text.specs.Steps.{low, sheetFrom}
+use Rattle.sheet_text.specs.ReadLaws.{lowInputs}
+use Rattle.sheet_text.specs.StepsLaws.{low-take, low-drop, three, low-refused, low-accepted}
+use Rattle.sheet_text.proofs.print_numbers.Statement.{statement}
+use Rattle.sheet_text.proofs.print_numbers.Tie as tie
+
+-- the five things that the numbers say
+abbrev said : List ℕ → Five
+said ns = fiveOf (getD ns 0 0) (getD ns 1 0) (getD ns 2 0) (drop 3 ns)
+
+module _ (ns : List ℕ) (enough : 3 ≤ length ns) where
+  -- the numbers after the third
+  rest : take (length ns - 3) (drop 3 ns) ≡ drop 3 ns
+  rest = take-all (length ns - 3) (drop 3 ns) (omega (arith, length-drop 3 ns))
+
+  long : length (drop 3 ns) ≡ length ns - 3
+  long = length-drop 3 ns
+
+  module _ (bytes : List ℕ) (zs : List ℕ) (p : ℕ) (e : bytes ≡ map low (drop 3 ns) ++ zs) (q : p ≡ min (parentCount (getD ns 0 0) (getD ns 1 0)) (length ns - 3)) where
+    parents : take p bytes ≡ map low (said ns .inputs .parents)
+    parents = rw (e, q, ← long) (low-take (parentCount (getD ns 0 0) (getD ns 1 0)) (drop 3 ns) zs)
+
+    turns : take (length ns - 3 - p) (drop p bytes) ≡ map low (said ns .schedule)
+    turns = rw (e, q, ← long) (low-drop (parentCount (getD ns 0 0) (getD ns 1 0)) (drop 3 ns) zs)
+
+  module _ (r : Fresh) (e : r ≡ freshOf (lowInputs (said ns .inputs))) where
+    refused : r .reason ≢ 0 → printed (readNumbers ns) ≡ refusalOf (r .reason) 0
+    unfolding freshOf
+    refused ne =
+        let k : r .reason ≡ freshReason (lowInputs (said ns .inputs)) = ap (λ (x : Fresh). x .reason) e in
+        rw (three ns enough, k) (low-refused (said ns) (λ z. ne (k ∙ z)))
+
+    module _ (z : r .reason ≡ 0) where
+      none : freshReason (lowInputs (said ns .inputs)) ≡ 0
+      unfolding freshOf
+      none = sym (ap (λ (x : Fresh). x .reason) e) ∙ z
+
+      valid : Valid (r .state)
+      valid = rw (e, fresh-accepted (lowInputs (said ns .inputs)) none) (fresh-valid (lowInputs (said ns .inputs)) none)
+
+      accepted : (ts : List ℕ) → ts ≡ map low (said ns .schedule) → printed (readNumbers ns) ≡ sheetFrom (r .state) ts
+      accepted ts t = rw (three ns enough, t, e) (low-accepted (said ns) none)
+
+cast-kind : tie.Need-cast-kind
+cast-kind c = omega (arith, c .shared-slice-known2 .given 0)
+
+cast-n : tie.Need-cast-n
+cast-n c = omega (arith, c .shared-slice-known3 .given 1)
+
+cast-modulus : tie.Need-cast-modulus
+cast-modulus c = omega (arith, c .shared-slice-known4 .given 2)
+
+-- the numbers, and that there are three at least
+abbrev ns : tie.Start → List ℕ
+ns s = s .args .numbers .now
+
+-- what is in the buffer
+filled : (c : tie.After-bytes2) → c .bytes2 .last .1 .0 ≡ map low (drop 3 (ns (c .before .before .before .before .before .before .before))) ++ drop (length (drop 3 (ns (c .before .before .before .before .before .before .before)))) (replicate 32768 0)
+filled c = rw (rest (ns (c .before .before .before .before .before .before .before)) (c .before .before .before .before .before .before .before .pre .0)) at (c .bytes2 .ensures)
+
+slice-aggregate-fresh : tie.Need-slice-aggregate-fresh
+slice-aggregate-fresh c =
+    let p = c .before in
+    let y = p .before .before in
+    sym (length-take-le (p .parent-count .result) (y .bytes2 .last .1 .0)
+    (omega (arith, y .bytes2 .kept, length-replicate {A = ℕ} 32768 0, p .parent-count .ensures, y .before .before .before .before .before .before .before .pre)))
+
+-- what the fresh state is made from
+made : (c : tie.After-fresh) → c .fresh .result ≡ freshOf (lowInputs (said (ns (c .before .before .before .before .before .before .before .before .before .before .before)) .inputs))
+made c =
+    let p = c .before .before in
+    let y = p .before .before in
+    let s = y .before .before .before .before .before .before .before in
+    c .fresh .ensures
+    ∙ ap (λ (ps : List ℕ). freshOf (record { kind = getD (ns s) 0 0; n = getD (ns s) 1 0; modulus = getD (ns s) 2 0; parents = ps }))
+    (parents (ns s) (s .pre .0) (y .bytes2 .last .1 .0) _ (p .parent-count .result) (filled y) (p .parent-count .ensures))
+
+returns : tie.Need-returns
+returns c =
+    let f = c .before .before .before in
+    let s = f .before .before .before .before .before .before .before .before .before .before .before in
+    rw (refused (ns s) (s .pre .0) (f .fresh .result) (made f) (c .before .before .if1 .taken)) (c .refusal .ensures)
+
+-- the turns that are run
+turned : (c : tie.After-fresh) → let p = c .before .before in
+    take (length (ns (c .before .before .before .before .before .before .before .before .before .before .before)) - 3 - p .parent-count .result) (drop (p .parent-count .result) (p .before .before .bytes2 .last .1 .0)) ≡ map low (said (ns (c .before .before .before .before .before .before .before .before .before .before .before)) .schedule)
+turned c =
+    let p = c .before .before in
+    let y = p .before .before in
+    let s = y .before .before .before .before .before .before .before in
+    turns (ns s) (s .pre .0) (y .bytes2 .last .1 .0) _ (p .parent-count .result) (filled y) (p .parent-count .ensures)
+
+print-run-requires : tie.Need-print-run-requires
+print-run-requires c κs =
+    let f = c .before .before .before .before in
+    let s = f .before .before .before .before .before .before .before .before .before .before .before in
+    let d : ℕ = parentCount (getD (ns s) 0 0) (getD (ns s) 1 0) in (
+      valid (ns s) (s .pre .0) (f .fresh .result) (made f) (c .before .before .before .if1 .left),
+      rw (turned f, length-map (drop d (drop 3 (ns s))) low, length-drop d (drop 3 (ns s)), length-drop 3 (ns s)) (omega (arith, s .pre .1)),
+    )
+
+returns-2 : tie.Need-returns-2
+returns-2 c =
+    let f = c .before .before .before .before .before in
+    let s = f .before .before .before .before .before .before .before .before .before .before .before in
+    rw (accepted (ns s) (s .pre .0) (f .fresh .result) (made f) (c .before .before .before .before .if1 .left) _ (turned f)) (c .print-run .ensures)
+
+pub print-numbers-spec : {M : Type 1} → statement M
+print-numbers-spec =
+    tie.close
+    (tie.spec (λ c. search needs) cast-kind (λ c. search needs) cast-n (λ c. search needs) cast-modulus (λ c. search needs) (λ c. search needs) (λ c. search needs) (λ c. search needs) (λ c κs. search needs) (λ c. search needs) (λ c κs. search needs) (λ c. search needs) slice-aggregate-fresh (λ c κs. search needs) (λ c. search needs) (λ c κs. search needs) returns (λ c. search needs) (λ c. search needs) (λ c. search needs) print-run-requires returns-2)

@@ -1,0 +1,10 @@
+-- The sheet: what a text says (`Read`), what is printed of it (`Print`), and what the steps between leave (`Steps`); then the laws.
+pub mod Read
+pub mod Print
+pub mod Steps
+pub mod ReadLaws
+pub mod TurnsLaws
+pub mod PrintLaws
+pub mod StepsLaws
+pub mod DoneLaws
+pub mod SheetLaws

@@ -1,0 +1,271 @@
+// The answer to each request, from what the libraries answer.
+use crate::fields;
+use crate::print;
+use crate::print::Output;
+use crate::print::Said;
+use crate::print::Word;
+use crate::request;
+use crate::text::Line;
+use machine::Move;
+use machine::Outcome;
+use machine::Ready;
+use machine::Setup;
+use machine::State;
+use parents::Shaped;
+use runner::Ending;
+use schedule::answer::Passes;
+
+// The state that is kept, and what is said.
+struct Answered {
+    state: State,
+    said: Said,
+}
+
+// The state that is kept, and the place after the answer.
+pub struct Printed {
+    pub state: State,
+    pub at: usize,
+}
+
+// The most bytes of a log, numbers of a list and bytes of a table.
+const MOST_LOG: usize = 131072;
+
+const MOST_LIST: usize = 131072;
+
+const MOST_TABLE: usize = 4096;
+
+// A refusal, for 9 with its place.
+fn refused(reason: u8, place: usize) -> Said {
+    if reason == 9 {
+        Said::RefusedAt(place)
+    } else {
+        Said::Refused(reason)
+    }
+}
+
+fn fresh(setup: Setup, parents: &[u8]) -> Answered {
+    let answer = setup.fresh(parents);
+    let state = answer.state;
+    let reason = answer.reason;
+    if reason == 0 {
+        return Answered {
+            state,
+            said: Said::Number(0),
+        };
+    }
+    Answered {
+        state,
+        said: Said::Refused(reason),
+    }
+}
+
+fn outcome(made: Outcome) -> Said {
+    match made {
+        Outcome::Made(how) => match how {
+            Move::Moved => Said::Number(1),
+            Move::Waited => Said::Number(0),
+        },
+        Outcome::Refused(reason) => Said::Refused(reason),
+    }
+}
+
+fn turn(before: State, task: usize) -> Answered {
+    let turned = before.turn(task);
+    let state = turned.state;
+    let made = turned.outcome;
+    let said = outcome(made);
+    Answered { state, said }
+}
+
+fn who(ready: Ready) -> Said {
+    match ready {
+        Ready::Task(task) => Said::Task(task),
+        Ready::Nobody => Said::Plain(Word::Nobody),
+        Ready::Refused(reason) => Said::Refused(reason),
+    }
+}
+
+fn ready(before: State) -> Answered {
+    let readied = before.ready();
+    let state = readied.state;
+    let answer = readied.ready;
+    let said = who(answer);
+    Answered { state, said }
+}
+
+fn change(state: State, field: u64, task: usize, value: u64) -> Answered {
+    if !fields::holds(field, task, value) {
+        return Answered {
+            state,
+            said: Said::Plain(Word::BadLine),
+        };
+    }
+    let changed = fields::with(state, field, task, value);
+    Answered {
+        state: changed,
+        said: Said::Plain(Word::Ok),
+    }
+}
+
+// The requests that answer no list.
+fn brief(state: State, ask: u64, line: Line, parents: &[u8]) -> Answered {
+    let a = line.head[1];
+    let b = line.head[2];
+    let c = line.head[3];
+    match ask {
+        1 => fresh(
+            Setup {
+                kind: a as usize,
+                n: b as usize,
+                modulus: c as usize,
+            },
+            parents,
+        ),
+        2 => turn(state, a as usize),
+        3 => ready(state),
+        6 => change(state, a, b as usize, c),
+        _ => Answered {
+            state,
+            said: Said::Plain(Word::BadLine),
+        },
+    }
+}
+
+fn ending(how: Ending) -> Said {
+    match how {
+        Ending::Done => Said::Plain(Word::Done),
+        Ending::Spent => Said::Plain(Word::Spent),
+        Ending::Stopped(reason) => Said::Stopped(reason),
+        Ending::Refused(reason, place) => refused(reason, place),
+    }
+}
+
+// Each task's moves, or its waits.
+fn tally(turns: [u32; 64], out: &mut Output, at: usize) -> usize {
+    print::words(&turns, out, at)
+}
+
+fn run_on(
+    before: State,
+    schedule: &[u8],
+    allowance: usize,
+    log: &mut [u8],
+    out: &mut Output,
+    at: usize,
+) -> Printed {
+    let ran = runner::run(before, schedule, allowance, log);
+    let state = ran.state;
+    let how = ran.ending;
+    let moves = ran.moves;
+    let waits = ran.waits;
+    let mut k = print::say(ending(how), out, at);
+    k = print::next(ran.turns as u64, out, k);
+    k = tally(moves, out, k);
+    k = tally(waits, out, k);
+    k = print::bytes(log, out, k);
+    Printed { state, at: k }
+}
+
+fn run(
+    state: State,
+    schedule: &[u8],
+    allowance: usize,
+    len: usize,
+    out: &mut Output,
+    at: usize,
+) -> Printed {
+    let mut log = [255u8; MOST_LOG];
+    if MOST_LOG < len {
+        return Printed {
+            state,
+            at: print::say(Said::Plain(Word::BadLine), out, at),
+        };
+    }
+    run_on(state, schedule, allowance, &mut log[0..len], out, at)
+}
+
+fn counted(passes: Passes) -> Said {
+    match passes {
+        Passes::Count(count) => Said::Number(count as u64),
+        Passes::Refused(reason, place) => refused(reason, place),
+    }
+}
+
+fn passes_on(n: usize, schedule: &[u8], list: &mut [u32], out: &mut Output, at: usize) -> usize {
+    let answer = schedule::passes(n, schedule, list);
+    let k = print::say(counted(answer), out, at);
+    print::words(list, out, k)
+}
+
+fn passes(n: usize, schedule: &[u8], len: usize, out: &mut Output, at: usize) -> usize {
+    let mut list = [4294967295u32; MOST_LIST];
+    if MOST_LIST < len {
+        return print::say(Said::Plain(Word::BadLine), out, at);
+    }
+    passes_on(n, schedule, &mut list[0..len], out, at)
+}
+
+fn first_pass(n: usize, schedule: &[u8], place: usize, out: &mut Output, at: usize) -> usize {
+    let pass = schedule::first_pass(schedule, n, place);
+    let k = print::number(pass.len() as u64, out, at);
+    print::bytes(pass, out, k)
+}
+
+fn written(shaped: Shaped) -> Said {
+    match shaped {
+        Shaped::Written => Said::Plain(Word::Ok),
+        Shaped::UnknownShape => Said::Refused(2),
+        Shaped::WrongCount => Said::Refused(3),
+        Shaped::ShortTable => Said::Refused(10),
+    }
+}
+
+fn shape_on(shape: usize, n: usize, table: &mut [u8], out: &mut Output, at: usize) -> usize {
+    let answer = parents::shape(shape, n, table);
+    let k = print::say(written(answer), out, at);
+    print::bytes(table, out, k)
+}
+
+fn shape(shape: usize, n: usize, len: usize, out: &mut Output, at: usize) -> usize {
+    let mut table = [255u8; MOST_TABLE];
+    if MOST_TABLE < len {
+        return print::say(Said::Plain(Word::BadLine), out, at);
+    }
+    shape_on(shape, n, &mut table[0..len], out, at)
+}
+
+// The answer to a line, with no line feed. Its parents or turns stand in `tail`.
+pub fn answer(state: State, line: Line, tail: &[u8], out: &mut Output, at: usize) -> Printed {
+    let ask = request::asked(line);
+    let a = line.head[1] as usize;
+    let b = line.head[2] as usize;
+    let c = line.head[3] as usize;
+    match ask {
+        4 => run(state, tail, a, b, out, at),
+        5 => Printed {
+            state,
+            at: fields::show(state, out, at),
+        },
+        7 => Printed {
+            state,
+            at: passes(a, tail, b, out, at),
+        },
+        8 => Printed {
+            state,
+            at: first_pass(a, tail, b, out, at),
+        },
+        9 => Printed {
+            state,
+            at: shape(a, b, c, out, at),
+        },
+        _ => {
+            let answered = brief(state, ask, line, tail);
+            let kept = answered.state;
+            let said = answered.said;
+            Printed {
+                state: kept,
+                at: print::say(said, out, at),
+            }
+        }
+    }
+}
