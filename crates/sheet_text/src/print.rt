@@ -115,7 +115,7 @@ fn least(state: State, n: usize) -> u32
 }
 
 // The whole table: the lines of the tasks below n, the passes and the least count.
-pub fn table(page: &mut [u8; 2048], ran: Ran, n: usize, passes: usize) -> usize
+pub(crate) fn table(page: &mut [u8; 2048], ran: Ran, n: usize, passes: usize) -> usize
     requires { ⌜ n ≤ 64 ⌝ }
     requires { ⌜ length (tableWith (rowsBy (ranRow ran) n) passes (leastUpTo (ran .state) (n - 1))) ≤ 2048 ⌝ }
     ensures { λ r. ⌜ Prints 0 (tableWith (rowsBy (ranRow ran) n) passes (leastUpTo (ran .state) (n - 1))) (now (page .entry)) r (now (page .exit)) ⌝ }
@@ -131,7 +131,7 @@ pub fn table(page: &mut [u8; 2048], ran: Ran, n: usize, passes: usize) -> usize
 }
 
 // The line of a refusal; the place is printed for reason 9 alone.
-pub fn refusal(page: &mut [u8; 2048], reason: usize, place: usize) -> usize
+pub(crate) fn refusal(page: &mut [u8; 2048], reason: usize, place: usize) -> usize
     ensures { λ r. ⌜ Prints 0 (refusalOf reason place) (now (page .entry)) r (now (page .exit)) ⌝ }
 {
     let a = word(page, 0, b"refused");

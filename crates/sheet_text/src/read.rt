@@ -14,7 +14,7 @@ pub enum Found {
 
 // Writes the numbers of a text to the buffer, one after the other. Each takes a digit, and a byte between it and the next, so that
 // half as many places as the text has bytes are enough.
-pub fn numbers(text: &[u8], buffer: &mut [u32]) -> Found
+pub(crate) fn numbers(text: &[u8], buffer: &mut [u32]) -> Found
     requires { ⌜ length (now text) ≤ maxText ⌝ }
     requires { ⌜ 32768 ≤ length (now buffer) ⌝ }
     ensures { λ r. ⌜ Reads (numbersFrom 0 0 (now (text .entry))) r (now (buffer .exit)) ⌝ }
@@ -53,7 +53,7 @@ pub fn numbers(text: &[u8], buffer: &mut [u32]) -> Found
 }
 
 // Writes each number as a byte, the larger ones as 255.
-pub fn bytes(numbers: &[u32], buffer: &mut [u8])
+pub(crate) fn bytes(numbers: &[u32], buffer: &mut [u8])
     requires { ⌜ length (now numbers) ≤ length (now buffer) ⌝ }
     ensures { λ r. ⌜ now (buffer .exit) ≡ map low (now (numbers .entry)) ++ drop (length (now (numbers .entry))) (now (buffer .entry)) ⌝ }
 {
