@@ -45,33 +45,27 @@ allTasks n ts = eqb (unknownAt n ts) (length ts)
 unfoldable pub countAnswer : ℕ → List ℕ → Passes
 countAnswer n ts = pick (allTasks n ts) (Count (length (passesOf n ts))) (Refused 9 (unknownAt n ts))
 
--- the paper's numbers of an answer: the reason, 0 if accepted; the place of 9; the number of passes
-pub record Answer : Type 0 where
-  pub reason : ℕ
-  pub place : ℕ
-  pub count : ℕ
-
-abbrev pub numbers : Passes → Answer
-numbers (Count k) = record { reason = 0; place = 0; count = k }
-numbers (Refused k at) = record { reason = k; place = at; count = 0 }
-
 -- "Passes 3, 8, 9, 10"; 3: "N isn't 1 to 64"; 10: a "pair list under two numbers a pass". The list has `room` numbers.
-unfoldable pub passesAnswer : ℕ → List ℕ → ℕ → Answer
+unfoldable pub passesAnswer : ℕ → List ℕ → ℕ → Passes
 passesAnswer n ts room =
     pick (isCount n)
     (pick (leb (length ts) maxTurns)
     (pick (allTasks n ts)
     (pick (leb (2 * length (passesOf n ts)) room)
-    (record { reason = 0; place = 0; count = length (passesOf n ts) })
-    (record { reason = 10; place = 0; count = 0 }))
-    (record { reason = 9; place = unknownAt n ts; count = 0 }))
-    (record { reason = 8; place = 0; count = 0 }))
-    (record { reason = 3; place = 0; count = 0 })
+    (Count (length (passesOf n ts)))
+    (Refused 10 0))
+    (Refused 9 (unknownAt n ts)))
+    (Refused 8 0))
+    (Refused 3 0)
 
 -- the list with the pairs written to it. "Numbers after the last pair don't change"
 abbrev pub withPairs : ℕ → List ℕ → List ℕ → List ℕ
 withPairs n ts pairs = pairsFrom 0 (passesOf n ts) ++ drop (2 * length (passesOf n ts)) pairs
 
--- a refused call "writes to no buffer"
+-- the list after an answer; a refused call "writes to no buffer"
+abbrev pub pairsBy : Passes → ℕ → List ℕ → List ℕ → List ℕ
+pairsBy (Count k) n ts pairs = withPairs n ts pairs
+pairsBy (Refused k at) n ts pairs = pairs
+
 unfoldable pub pairsAfter : ℕ → List ℕ → List ℕ → List ℕ
-pairsAfter n ts pairs = pick (eqb (passesAnswer n ts (length pairs) .reason) 0) (withPairs n ts pairs) pairs
+pairsAfter n ts pairs = pairsBy (passesAnswer n ts (length pairs)) n ts pairs

@@ -7,7 +7,7 @@ ghost use mathlib.Core.Path.{_≡_};
 ghost use mathlib.Core.Bool.{true};
 ghost use Prim.Native.Nat.{_+_, _*_, _≤_, min};
 ghost use lib.ListN.{length, drop};
-ghost use Rattle.schedule.specs.Passes.{passesOf, maxTurns, allTasks, countAnswer, numbers, passesAnswer, withPairs, pairsAfter};
+ghost use Rattle.schedule.specs.Passes.{passesOf, maxTurns, allTasks, countAnswer, passesAnswer, withPairs, pairsAfter};
 ghost use Rattle.schedule.specs.FirstPass.{firstPassOf};
 
 // How many passes a schedule for n tasks has; or 9 with the place of the first turn that is no task.
@@ -63,7 +63,7 @@ fn write(n: usize, schedule: &[u8], pairs: &mut [u32])
 // Cuts a schedule into passes: a pass ends at the first turn by which every task has been named since it began. Writes each as
 // its offset and its length, if there is room for all, and leaves the numbers after the last pair as they were.
 pub fn passes(n: usize, schedule: &[u8], pairs: &mut [u32]) -> Passes
-    ensures { λ r. ⌜ numbers r ≡ passesAnswer n (now (schedule .entry)) (length (now (pairs .entry))) ⌝ }
+    ensures { λ r. ⌜ r ≡ passesAnswer n (now (schedule .entry)) (length (now (pairs .entry))) ⌝ }
     ensures { λ r. ⌜ now (pairs .exit) ≡ pairsAfter n (now (schedule .entry)) (now (pairs .entry)) ⌝ }
 {
     if n < 1 {

@@ -1,6 +1,7 @@
--- The sheet: what a text says (`Read`), what is printed of it (`Print`), and what the steps between leave (`Steps`); then the laws.
+-- The sheet: what a text says (`Read`), what is printed of it (`Print`), the numbers of what `passes` answers (`Cut`), and what the steps between leave (`Steps`); then the laws.
 pub mod Read
 pub mod Print
+pub mod Cut
 pub mod Steps
 pub mod ReadLaws
 pub mod TurnsLaws

@@ -6,13 +6,12 @@ use Prim.Native.Nat.{ℕ, _+_, min}
 use lib.ListN.{length, take, getD}
 use lib.Seq.{sets}
 use Rattle.bitset.specs.Choice.{pick}
-use Rattle.schedule.specs.Passes.{passesOf, unknownAt, allTasks, Answer}
+use Rattle.schedule.specs.Passes.{passesOf, unknownAt, allTasks}
 use Rattle.machine.specs.declared.State.{State}
 use Rattle.machine.specs.Setters.{taskAt}
 use Rattle.machine.specs.Least.{least}
 use Rattle.runner.specs.declared.Ran.{Ran}
 use Rattle.runner.specs.Trace.{traceOf}
-use Rattle.sheet_text.specs.declared.Cut.{Cut}
 use Rattle.sheet_text.specs.declared.read.Found.{Found}
 use Rattle.sheet_text.specs.declared.read.Found.the-variants.{Count, Bad}
 use Rattle.sheet_text.specs.Print.{rowWith, rowOf, rowsBy, tableWith, refusalOf}
@@ -34,10 +33,6 @@ pub record Prints (at : ℕ) (ws before : List ℕ) (to : ℕ) (after : List ℕ
 -- the row of task q by what a run answers
 abbrev pub ranRow : Ran → ℕ → List ℕ
 ranRow ran q = rowWith q (taskAt (ran .state) q .line) (taskAt (ran .state) q .count) (getD (ran .moves) q 0) (getD (ran .waits) q 0)
-
--- the numbers of what `passes` answers
-abbrev pub cutNumbers : Cut → Answer
-cutNumbers c = record { reason = c .reason; place = c .place; count = c .count }
 
 -- what is printed of the turns ts from the state s, which is in range
 unfoldable pub tableFrom : State → List ℕ → List ℕ

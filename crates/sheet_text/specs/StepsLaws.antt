@@ -9,7 +9,8 @@ use lib.ListN.{length, take, drop, getD, length-map}
 use lib.Seq.{take-at, take-length}
 use borrow.Author.Tests.{le-leb, eq-eqb, ne-eqb}
 use Rattle.bitset.specs.Choice.{pick}
-use Rattle.schedule.specs.Passes.{passesOf, unknownAt, allTasks, Answer, passesAnswer}
+use Rattle.schedule.specs.Passes.{passesOf, unknownAt, allTasks, passesAnswer}
+use Rattle.schedule.specs.declared.answer.Passes.the-variants.{Count, Refused}
 use Rattle.machine.specs.declared.State.{State}
 use Rattle.machine.specs.Fresh.{freshReason, freshState, freshOf}
 use Rattle.machine.specs.FreshLaws.{accepted-inputs, fresh-accepted}
@@ -20,6 +21,8 @@ use Rattle.runner.specs.declared.Ran.{Ran}
 use Rattle.runner.specs.Trace.{Trace, traceOf}
 use Rattle.runner.specs.Run.{movesIn, waitsIn, unstopped, runReason, ranOf, runOf}
 use Rattle.runner.specs.RunLaws.{table-at}
+use Rattle.sheet_text.specs.declared.Cut.{Cut}
+use Rattle.sheet_text.specs.Cut.{cutOf}
 use Rattle.sheet_text.specs.Read.{Five, five, refused, readNumbers, checked, fiveOf}
 use Rattle.sheet_text.specs.Print.{rowOf, rowsBy, tableWith, refusalOf, tableOf, printed}
 use Rattle.sheet_text.specs.Steps.{low, ranRow, tableFrom, sheetFrom}
@@ -51,29 +54,28 @@ low-drop (suc k) (x ∷ xs) ys =
 
 module _ (s : State) (ts : List ℕ) (ok : Valid s) (few : length ts ≤ 32768) where
   -- only 9 is left of the reasons that refuse passes
-  answer : passesAnswer (s .n) ts 65536
-      ≡ pick (allTasks (s .n) ts) (record { reason = 0; place = 0; count = length (passesOf (s .n) ts) }) (record { reason = 9; place = unknownAt (s .n) ts; count = 0 })
+  answer : passesAnswer (s .n) ts 65536 ≡ pick (allTasks (s .n) ts) (Count (length (passesOf (s .n) ts))) (Refused 9 (unknownAt (s .n) ts))
   unfolding passesAnswer
   answer =
       rw (le-leb 1 (s .n) (range s ok .some), le-leb (s .n) 64 (range s ok .few), le-leb (length ts) 65536 (omega arith), le-leb (2 * length (passesOf (s .n) ts)) 65536 (omega (arith, passes-few (s .n) [] ts)))
 
-  module _ (a : Answer) (e : a ≡ passesAnswer (s .n) ts 65536) where
+  module _ (a : Cut) (e : a ≡ cutOf (passesAnswer (s .n) ts 65536)) where
     pub cut-refused : a .reason ≢ 0 → sheetFrom s ts ≡ refusalOf (a .reason) (a .place)
     unfolding sheetFrom
-    cut-refused ne = go (allTasks (s .n) ts) (e ∙ answer)
+    cut-refused ne = go (allTasks (s .n) ts) (e ∙ ap cutOf answer)
       where
-        go : (b : Bool) → a ≡ pick b (record { reason = 0; place = 0; count = length (passesOf (s .n) ts) }) (record { reason = 9; place = unknownAt (s .n) ts; count = 0 })
+        go : (b : Bool) → a ≡ cutOf (pick b (Count (length (passesOf (s .n) ts))) (Refused 9 (unknownAt (s .n) ts)))
             → pick b (tableFrom s ts) (refusalOf 9 (unknownAt (s .n) ts)) ≡ refusalOf (a .reason) (a .place)
-        go true e = absurd (ne (ap (λ (x : Answer). x .reason) e))
+        go true e = absurd (ne (ap (λ (x : Cut). x .reason) e))
         go false e = rw e
 
     pub cut-accepted : a .reason ≡ 0 → (allTasks (s .n) ts ≡ true) × (a .count ≡ length (passesOf (s .n) ts))
-    cut-accepted z = go (allTasks (s .n) ts) (e ∙ answer)
+    cut-accepted z = go (allTasks (s .n) ts) (e ∙ ap cutOf answer)
       where
-        go : (b : Bool) → a ≡ pick b (record { reason = 0; place = 0; count = length (passesOf (s .n) ts) }) (record { reason = 9; place = unknownAt (s .n) ts; count = 0 })
+        go : (b : Bool) → a ≡ cutOf (pick b (Count (length (passesOf (s .n) ts))) (Refused 9 (unknownAt (s .n) ts)))
             → (b ≡ true) × (a .count ≡ length (passesOf (s .n) ts))
-        go true e = (refl, ap (λ (x : Answer). x .count) e)
-        go false e = absurd (omega (arith, ap (λ (x : Answer). x .reason) e))
+        go true e = (refl, ap (λ (x : Cut). x .count) e)
+        go false e = absurd (omega (arith, ap (λ (x : Cut). x .reason) e))
 
   module _ (all : allTasks (s .n) ts ≡ true) where
     -- nothing refuses the run, and its allowance is enough

@@ -15,9 +15,10 @@ ghost use Rattle.schedule.specs.Passes.{passesAnswer};
 ghost use Rattle.machine.specs.Range.{Valid};
 ghost use Rattle.sheet_text.specs.Read.{parentCount, readNumbers};
 ghost use Rattle.sheet_text.specs.Print.{printed, sheetOf, pageOf};
-ghost use Rattle.sheet_text.specs.Steps.{Prints, cutNumbers, sheetFrom};
+ghost use Rattle.sheet_text.specs.Cut.{cutOf};
+ghost use Rattle.sheet_text.specs.Steps.{Prints, sheetFrom};
 
-// The paper's numbers of what `passes` answers: the reason, 0 if accepted; the place of 9; the number of passes.
+// The paper's numbers of what `passes` answers; specs/Cut.antt gives them.
 struct Cut {
     reason: u8,
     place: usize,
@@ -26,7 +27,7 @@ struct Cut {
 
 // Cuts a schedule into passes. Where they stand is not asked.
 fn passes_of(n: usize, schedule: &[u8]) -> Cut
-    ensures { λ r. ⌜ cutNumbers r ≡ passesAnswer n (now (schedule .entry)) 65536 ⌝ }
+    ensures { λ r. ⌜ r ≡ cutOf (passesAnswer n (now (schedule .entry)) 65536) ⌝ }
 {
     let mut pairs = [0u32; 65536];
     let counted = schedule::passes(n, schedule, &mut pairs);

@@ -4,14 +4,13 @@ use mathlib.Core.Bool.{Bool, true, false}
 use mathlib.Core.List.{List}
 use Prim.Native.Nat.{ℕ, _*_, _/_, _≤_, _<_}
 use native.Mathlib.Omega.{arith}
-use lib.Dec.{eqb}
 use lib.ListN.{length}
 use borrow.Author.Needs.{needs}
 use borrow.Author.Tests.{le-leb, lt-leb}
 use Rattle.bitset.specs.Choice.{pick}
 use Rattle.schedule.specs.declared.answer.Passes.{Passes}
 use Rattle.schedule.specs.declared.answer.Passes.the-variants.{Count, Refused}
-use Rattle.schedule.specs.Passes.{passesOf, maxTurns, unknownAt, allTasks, Answer, numbers, countAnswer, passesAnswer, withPairs, pairsAfter}
+use Rattle.schedule.specs.Passes.{passesOf, maxTurns, unknownAt, allTasks, countAnswer, passesAnswer, withPairs, pairsAfter}
 use Rattle.schedule.proofs.passes.Statement.{statement}
 use Rattle.schedule.proofs.passes.Tie as tie
 
@@ -33,32 +32,32 @@ told-refused n ts k at = go (allTasks n ts)
     go false e = (refl, e)
 
 module _ (n : ℕ) (ts pairs : List ℕ) where
-  refused : (a : Answer) → a ≡ passesAnswer n ts (length pairs) → eqb (a .reason) 0 ≡ false
-      → (a ≡ passesAnswer n ts (length pairs)) × (pairs ≡ pairsAfter n ts pairs)
+  refused : (r : Passes) (k at : ℕ) → r ≡ Refused k at → r ≡ passesAnswer n ts (length pairs)
+      → (r ≡ passesAnswer n ts (length pairs)) × (pairs ≡ pairsAfter n ts pairs)
   unfolding pairsAfter
-  refused a e o = (e, rw (← e, o))
+  refused r k at v e = (e, rw (← e, v))
 
   module _ (low : 1 ≤ n) (high : n ≤ 64) (short : length ts ≤ maxTurns) where
     refused-9 : (r : Passes) (k at : ℕ) → r ≡ Refused k at → r ≡ countAnswer n ts
-        → (numbers r ≡ passesAnswer n ts (length pairs)) × (pairs ≡ pairsAfter n ts pairs)
+        → (r ≡ passesAnswer n ts (length pairs)) × (pairs ≡ pairsAfter n ts pairs)
     unfolding passesAnswer
     refused-9 r k at v e =
         let t = told-refused n ts k at (sym v ∙ e) in
         let nine : r ≡ Refused 9 (unknownAt n ts) = v ∙ t .1 in
-        refused (numbers r) (rw (nine, le-leb 1 n low, le-leb n 64 high, le-leb (length ts) maxTurns short, t .0)) (rw nine)
+        refused r k at v (rw (nine, le-leb 1 n low, le-leb n 64 high, le-leb (length ts) maxTurns short, t .0))
 
     module _ (k : ℕ) (e : Count k ≡ countAnswer n ts) where
-      refused-10 : length pairs / 2 < k → numbers (Refused 10 0) ≡ passesAnswer n ts (length pairs)
+      refused-10 : length pairs / 2 < k → Refused 10 0 ≡ passesAnswer n ts (length pairs)
       unfolding passesAnswer
       refused-10 l =
           let t = told-count n ts k e in
           rw (le-leb 1 n low, le-leb n 64 high, le-leb (length ts) maxTurns short, t .0, lt-leb (2 * length (passesOf n ts)) (length pairs) (omega (arith, t .1)))
 
-      accepted : k ≤ length pairs / 2 → (numbers (Count k) ≡ passesAnswer n ts (length pairs)) × (withPairs n ts pairs ≡ pairsAfter n ts pairs)
+      accepted : k ≤ length pairs / 2 → (Count k ≡ passesAnswer n ts (length pairs)) × (withPairs n ts pairs ≡ pairsAfter n ts pairs)
       unfolding passesAnswer pairsAfter
       accepted l =
           let t = told-count n ts k e in
-          let a : numbers (Count k) ≡ passesAnswer n ts (length pairs)
+          let a : Count k ≡ passesAnswer n ts (length pairs)
           = let room = le-leb (2 * length (passesOf n ts)) (length pairs) (omega (arith, t .1)) in
           rw (le-leb 1 n low, le-leb n 64 high, le-leb (length ts) maxTurns short, t .0, room, t .1) in
           (a, rw (← a))
@@ -67,20 +66,20 @@ returns : tie.Need-returns
 unfolding passesAnswer
 returns c =
     let a = c .before .before .before .args in
-    refused (a .n) (a .schedule .now) (a .pairs .now) (numbers (Refused 3 0)) (rw (lt-leb 1 (a .n) (c .if1 .taken))) refl
+    refused (a .n) (a .schedule .now) (a .pairs .now) _ 3 0 refl (rw (lt-leb 1 (a .n) (c .if1 .taken)))
 
 returns-2 : tie.Need-returns-2
 unfolding passesAnswer
 returns-2 c =
     let a = c .before .before .before .before .args in
-    refused (a .n) (a .schedule .now) (a .pairs .now) (numbers (Refused 3 0)) (rw (le-leb 1 (a .n) (c .before .if1 .left), lt-leb (a .n) 64 (c .if2 .taken))) refl
+    refused (a .n) (a .schedule .now) (a .pairs .now) _ 3 0 refl (rw (le-leb 1 (a .n) (c .before .if1 .left), lt-leb (a .n) 64 (c .if2 .taken)))
 
 returns-3 : tie.Need-returns-3
 unfolding passesAnswer
 returns-3 c =
     let a = c .before .before .before .before .before .args in
-    refused (a .n) (a .schedule .now) (a .pairs .now) (numbers (Refused 8 0))
-    (rw (le-leb 1 (a .n) (c .before .before .if1 .left), le-leb (a .n) 64 (c .before .if2 .left), lt-leb (length (a .schedule .now)) maxTurns (c .if3 .taken))) refl
+    refused (a .n) (a .schedule .now) (a .pairs .now) _ 8 0 refl
+    (rw (le-leb 1 (a .n) (c .before .before .if1 .left), le-leb (a .n) 64 (c .before .if2 .left), lt-leb (length (a .schedule .now)) maxTurns (c .if3 .taken)))
 
 returns-4 : tie.Need-returns-4
 returns-4 c =
@@ -100,10 +99,9 @@ returns-5 c =
     let v = c .before .before in
     let p = v .before .before in
     let a = p .before .before .before .before .before .before .args in
-    refused (a .n) (a .schedule .now) (a .pairs .now) (numbers (Refused 10 0))
+    refused (a .n) (a .schedule .now) (a .pairs .now) _ 10 0 refl
     (refused-10 (a .n) (a .schedule .now) (a .pairs .now) (p .before .before .before .if1 .left) (p .before .before .if2 .left) (p .before .if3 .left)
     (v .counted .given .0 .0) (counted v) (c .if4 .taken))
-    refl
 
 write-requires : tie.Need-write-requires
 write-requires c κs =

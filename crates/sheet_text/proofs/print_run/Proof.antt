@@ -10,7 +10,7 @@ use Rattle.schedule.specs.Passes.{passesOf, allTasks}
 use Rattle.machine.specs.Least.{leastUpTo}
 use Rattle.machine.specs.RangeLaws.{range}
 use Rattle.sheet_text.specs.Print.{rowsBy, tableWith}
-use Rattle.sheet_text.specs.Steps.{cutNumbers, ranRow, tableFrom}
+use Rattle.sheet_text.specs.Steps.{ranRow, tableFrom}
 use Rattle.sheet_text.specs.PrintLaws.{table-fits}
 use Rattle.sheet_text.specs.StepsLaws.{cut-refused, cut-accepted, ran-table, all-tasks}
 use Rattle.sheet_text.proofs.print_run.Statement.{statement}
@@ -20,7 +20,7 @@ returns : tie.Need-returns
 returns c =
     let p = c .before .before .before in
     let s = p .before .before .before in
-    rw (cut-refused (s .args .state) (s .args .schedule .now) (s .pre .0) (s .pre .1) (cutNumbers (p .passes-of .result)) (p .passes-of .ensures) (c .before .before .if1 .taken))
+    rw (cut-refused (s .args .state) (s .args .schedule .now) (s .pre .0) (s .pre .1) (p .passes-of .result) (p .passes-of .ensures) (c .before .before .if1 .taken))
     (c .refusal .ensures)
 
 -- what the passes have told of a schedule that is not refused
@@ -29,7 +29,7 @@ told : (c : tie.Else1) → let p = c .before in let s = p .before .before .befor
 told c =
     let p = c .before in
     let s = p .before .before .before in
-    cut-accepted (s .args .state) (s .args .schedule .now) (s .pre .0) (s .pre .1) (cutNumbers (p .passes-of .result)) (p .passes-of .ensures) (c .if1 .left)
+    cut-accepted (s .args .state) (s .args .schedule .now) (s .pre .0) (s .pre .1) (p .passes-of .result) (p .passes-of .ensures) (c .if1 .left)
 
 -- the table of what the run has answered
 shown : (c : tie.After-run) → let p = c .before .before .before in let s = p .before .before .before .args in
