@@ -58,6 +58,19 @@ passesAnswer n ts room =
     (Refused 8 0))
     (Refused 3 0)
 
+-- the paper's numbers of an answer: the reason, 0 if accepted; the place of 9; the number of passes
+abbrev pub passesReason : Passes → ℕ
+passesReason (Count k) = 0
+passesReason (Refused reason at) = reason
+
+abbrev pub passesPlace : Passes → ℕ
+passesPlace (Count k) = 0
+passesPlace (Refused reason at) = at
+
+abbrev pub passesCount : Passes → ℕ
+passesCount (Count k) = k
+passesCount (Refused reason at) = 0
+
 -- the list with the pairs written to it. "Numbers after the last pair don't change"
 abbrev pub withPairs : ℕ → List ℕ → List ℕ → List ℕ
 withPairs n ts pairs = pairsFrom 0 (passesOf n ts) ++ drop (2 * length (passesOf n ts)) pairs

@@ -41,10 +41,7 @@ entryNumber i schedule log =
 unfoldable pub entryLog : Inputs → List ℕ → List ℕ → List ℕ
 entryLog i schedule log = pick (eqb (freshOf i .reason) 0) (logAfter (freshOf i .state) schedule (length schedule) log) log
 
-abbrev pub passesReason : Passes → ℕ
-passesReason (passes.Count k) = 0
-passesReason (passes.Refused k at) = k
-
+-- the number of passes, or the place of a refusal
 abbrev pub passesNumber : Passes → ℕ
 passesNumber (passes.Count k) = k
 passesNumber (passes.Refused k at) = at

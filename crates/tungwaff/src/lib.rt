@@ -5,9 +5,9 @@ use runner::Ending;
 use schedule::answer::Passes;
 ghost use mathlib.Core.Path.{_≡_};
 ghost use lib.ListN.{length};
-ghost use Rattle.schedule.specs.Passes.{passesAnswer, pairsAfter};
+ghost use Rattle.schedule.specs.Passes.{passesAnswer, passesReason, pairsAfter};
 ghost use Rattle.sheet_text.specs.Print.{sheetOf, pageOf};
-ghost use Rattle.tungwaff.specs.Entry.{inputsFrom, endingReason, endingNumber, passesReason, passesNumber, entryReason, entryNumber, entryLog};
+ghost use Rattle.tungwaff.specs.Entry.{inputsFrom, endingReason, endingNumber, passesNumber, entryReason, entryNumber, entryLog};
 
 // The reason that an ending gives.
 fn ending_reason(ending: Ending) -> u8

@@ -1,7 +1,8 @@
 -- `tungwaff_passes` meets its contract: what `passes` has answered, by its reason and its number.
 use mathlib.Core.Path.{sym, ap, _∙_}
 use borrow.Author.Needs.{needs}
-use Rattle.tungwaff.specs.Entry.{passesReason, passesNumber}
+use Rattle.schedule.specs.Passes.{passesReason}
+use Rattle.tungwaff.specs.Entry.{passesNumber}
 use Rattle.tungwaff.proofs.tungwaff_passes.Statement.{statement}
 use Rattle.tungwaff.proofs.tungwaff_passes.Tie as tie
 
