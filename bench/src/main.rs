@@ -1,44 +1,45 @@
-//! Measures the library against the second program's machine, which changes its state in place: the same schedules and texts, the
-//! same answers. Prints the tables of docs/performance.md.
+//! Holds the library against the second program, which changes its state in place: compares the answers, or measures both on the same
+//! schedules and texts and prints the tables of docs/performance.md.
 
+mod answer;
+mod baseline;
+mod check;
 mod library;
 mod measure;
 mod memory;
+mod stack;
 mod tables;
+mod targets;
 mod work;
 
-// What of the second program is measured. Not all of its functions are called here.
-#[allow(dead_code)]
-#[path = "../../second/src/machine.rs"]
-mod machine;
-#[allow(dead_code)]
-#[path = "../../second/src/passes.rs"]
-mod passes;
-#[allow(dead_code)]
-#[path = "../../second/src/random.rs"]
-mod random;
-#[allow(dead_code)]
-#[path = "../../second/src/refusal.rs"]
-mod refusal;
-#[allow(dead_code)]
-#[path = "../../second/src/schedules.rs"]
-mod schedules;
-#[allow(dead_code)]
-#[path = "../../second/src/shapes.rs"]
-mod shapes;
-#[path = "../../second/src/sheet.rs"]
-mod sheet;
+// The second program, of which not all functions are called. It stands here twice, so that what is compared does not change how what is
+// measured is compiled: a function that only a run calls is compiled into the run.
+#[allow(clippy::duplicate_mod)]
+mod compared;
+#[allow(clippy::duplicate_mod)]
+mod measured;
 
 use std::process::ExitCode;
 
-const USAGE: &str = "usage: bench/run [ROUNDS], where ROUNDS is 1 or more";
+const USAGE: &str = "\
+usage:
+  bench [ROUNDS]    measure, and print the tables; ROUNDS is 1 or more, 31 if none is given
+  bench check       compare the answers of every exported function
+  bench stack       print the memory that a process and the stack that a call needs
+";
 
 fn main() -> ExitCode {
     let words: Vec<String> = std::env::args().skip(1).collect();
     let words: Vec<&str> = words.iter().map(String::as_str).collect();
     match words[..] {
         [] => tables::print(31),
+        ["check"] => return checked(),
         ["peak", side] => memory::print_own(side),
+        ["stack"] => tables::print_memory(),
+        ["stack", call, kib] => match kib.parse() {
+            Ok(kib) if stack::CALLS.contains(&call) => stack::complete(call, kib),
+            _ => return wrong(),
+        },
         [rounds] => match rounds.parse() {
             Ok(rounds) if rounds > 0 => tables::print(rounds),
             _ => return wrong(),
@@ -48,7 +49,20 @@ fn main() -> ExitCode {
     ExitCode::SUCCESS
 }
 
+fn checked() -> ExitCode {
+    match check::check() {
+        Ok(line) => {
+            println!("check: {line}");
+            ExitCode::SUCCESS
+        }
+        Err(difference) => {
+            eprintln!("check: {difference}");
+            ExitCode::FAILURE
+        }
+    }
+}
+
 fn wrong() -> ExitCode {
-    eprintln!("{USAGE}");
-    ExitCode::FAILURE
+    eprint!("{USAGE}");
+    ExitCode::from(2)
 }

@@ -2,6 +2,8 @@
 
 use crate::measure::{measure, median, Times};
 use crate::memory::peak;
+use crate::stack;
+use crate::targets::{self, verdict};
 use crate::work::{text, Cut, Manner, Run, Sheet, KINDS, TURNS};
 
 const SIZES: [usize; 2] = [12, 64];
@@ -12,7 +14,7 @@ pub fn print(rounds: usize) {
     print_growth(rounds);
     print_passes(rounds);
     print_sheets(rounds);
-    print_peaks();
+    print_memory();
 }
 
 fn row(cells: &[String]) {
@@ -38,39 +40,64 @@ fn rates(bytes: usize, times: Times) -> [String; 3] {
     [rate(bytes, times.library), rate(bytes, times.baseline), tenths(times.ratio())]
 }
 
+fn highest(values: impl IntoIterator<Item = f64>) -> f64 {
+    values.into_iter().fold(f64::MIN, f64::max)
+}
+
+fn lowest(values: impl IntoIterator<Item = f64>) -> f64 {
+    values.into_iter().fold(f64::MAX, f64::min)
+}
+
 /// Runs of 65,536 turns: nanoseconds a turn.
 fn print_runs(rounds: usize) {
     println!("A run of {TURNS} turns, nanoseconds a turn:\n");
     head(&["kind", "N", "schedule", "library", "baseline", "ratio"]);
-    let mut ratios = Vec::new();
+    let mut ratios = Manner::ALL.map(|_| Vec::new());
     for (kind, name) in KINDS {
         for n in SIZES {
             let mut runs = Manner::ALL.map(|manner| Run::new(kind, n, manner.schedule(n, TURNS)));
             let times = measure(&mut runs, rounds);
-            ratios.push(times[0].ratio());
-            for (manner, times) in Manner::ALL.into_iter().zip(times) {
-                let turns = TURNS as f64;
-                let (library, baseline) = (times.library / turns, times.baseline / turns);
-                let cells = [tenths(library), tenths(baseline), tenths(times.ratio())];
+            for (place, (manner, times)) in Manner::ALL.into_iter().zip(times).enumerate() {
+                ratios[place].push(times.ratio());
+                let cells = per_turn(times);
                 row(&[&[name.into(), n.to_string(), manner.name().into()], &cells[..]].concat());
             }
         }
     }
-    println!("\nMedian ratio of the random schedules: {:.1}.\n", median(ratios));
+    for (manner, ratios) in Manner::ALL.into_iter().zip(ratios) {
+        let verdict = verdict(median(ratios), targets::run(manner));
+        row(&["median over kinds", "", manner.name(), "", "", &verdict].map(String::from));
+    }
+    println!();
 }
+
+/// Nanoseconds a turn of both sides, and their ratio.
+fn per_turn(times: Times) -> [String; 3] {
+    let turns = TURNS as f64;
+    [times.library / turns, times.baseline / turns, times.ratio()].map(tenths)
+}
+
+/// The numbers of turns with N 12, and the numbers of tasks with the most turns.
+const BY_TURNS: [(usize, usize); 3] = [(12, 1_024), (12, 8_192), (12, TURNS)];
+const BY_N: [(usize, usize); 4] = [(1, TURNS), (4, TURNS), (16, TURNS), (64, TURNS)];
 
 /// How the library's time a turn goes with the number of turns, and with N.
 fn print_growth(rounds: usize) {
-    println!("The library's nanoseconds a turn, random schedules: by turns with N 12, and by N with {TURNS} turns:\n");
-    head(&["kind", "1,024 turns", "8,192", "65,536", "N 1", "N 4", "N 16", "N 64"]);
-    let sizes =
-        [(12, 1_024), (12, 8_192), (12, TURNS), (1, TURNS), (4, TURNS), (16, TURNS), (64, TURNS)];
+    println!("The library's nanoseconds a turn, random schedules: by turns with N 12, and by N with {TURNS} turns; then the longest time by N over the shortest:\n");
+    head(&["kind", "1,024 turns", "8,192", "65,536", "N 1", "N 4", "N 16", "N 64", "over N"]);
+    let sizes = [&BY_TURNS[..], &BY_N[..]].concat();
     for (kind, name) in KINDS {
-        let mut runs = sizes.map(|(n, turns)| Run::new(kind, n, Manner::Random.schedule(n, turns)));
+        let run = |&(n, turns)| Run::new(kind, n, Manner::Random.schedule(n, turns));
+        let mut runs: Vec<Run> = sizes.iter().map(run).collect();
         let times = measure(&mut runs, rounds);
-        let cells =
-            times.iter().zip(sizes).map(|(times, (_, turns))| tenths(times.library / turns as f64));
-        row(&[name.to_string()].into_iter().chain(cells).collect::<Vec<_>>());
+        let a_turn = |(times, (_, turns)): (&Times, &(usize, usize))| times.library / *turns as f64;
+        let times: Vec<f64> = times.iter().zip(&sizes).map(a_turn).collect();
+        let by_n = &times[BY_TURNS.len()..];
+        let spread = highest(by_n.iter().copied()) / lowest(by_n.iter().copied());
+        let mut cells = vec![name.to_string()];
+        cells.extend(times.iter().copied().map(tenths));
+        cells.push(verdict(spread, targets::flat(kind)));
+        row(&cells);
     }
     println!();
 }
@@ -79,13 +106,16 @@ fn print_growth(rounds: usize) {
 fn print_passes(rounds: usize) {
     println!("Passes of {TURNS} turns, MB a second:\n");
     head(&["N", "schedule", "library", "baseline", "ratio of the times"]);
+    let mut ratios = Vec::new();
     for n in SIZES {
         let mut cuts = Manner::ALL.map(|manner| Cut::new(n, manner.schedule(n, TURNS)));
         let times = measure(&mut cuts, rounds);
         for (manner, times) in Manner::ALL.into_iter().zip(times) {
+            ratios.push(times.ratio());
             row(&[&[n.to_string(), manner.name().into()], &rates(TURNS, times)[..]].concat());
         }
     }
+    row(&["highest", "", "", "", &verdict(highest(ratios), targets::PASSES)].map(String::from));
     println!();
 }
 
@@ -95,17 +125,22 @@ fn print_sheets(rounds: usize) {
     head(&["text", "N", "library", "baseline", "ratio of the times"]);
     let refused = (1, "last turn refused: no run", "255");
     let whole = KINDS.map(|(kind, name)| (kind, name, ""));
+    let mut ratios = Vec::new();
     for (kind, name, last) in whole.into_iter().chain([refused]) {
         let mut sheets = SIZES.map(|n| Sheet::new(text(kind, n, last)));
         let times = measure(&mut sheets, rounds);
         for ((n, sheet), times) in SIZES.into_iter().zip(&sheets).zip(times) {
+            ratios.push(times.ratio());
             row(&[&[name.into(), n.to_string()], &rates(sheet.text.len(), times)[..]].concat());
         }
     }
+    row(&["highest", "", "", "", &verdict(highest(ratios), targets::SHEET)].map(String::from));
     println!();
 }
 
-fn print_peaks() {
+pub fn print_memory() {
     let [library, baseline, neither] = ["library", "baseline", "neither"].map(peak);
     println!("Peak memory of a process that does one side's work with N 64: library {library} KiB, baseline {baseline} KiB; without work {neither} KiB.");
+    let stacks = stack::CALLS.map(|call| format!("{call} {}", stack::least(call)));
+    println!("Stack that a call of the library needs with N 64, in KiB: {}.", stacks.join(", "));
 }

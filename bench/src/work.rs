@@ -1,8 +1,10 @@
 //! What is measured: runs of schedules, their passes, and sheets of texts, each done by the library and by the baseline.
 
-use crate::machine::{fresh, run, Ending, State, SYMMETRIC, TREE};
-use crate::random::Random;
-use crate::{library, passes, schedules, shapes, sheet};
+use crate::answer::{Answer, Start, PAGE};
+use crate::library;
+use crate::measured::machine::{fresh, run, Ending, State, SYMMETRIC, TREE};
+use crate::measured::random::Random;
+use crate::measured::{passes, schedules, shapes, sheet};
 
 pub const TURNS: usize = 65_536;
 
@@ -48,29 +50,23 @@ pub trait Work {
 
 /// A run from a fresh state, with its log.
 pub struct Run {
-    kind: u8,
-    n: usize,
-    modulus: u8,
-    parents: Vec<u8>,
-    pub schedule: Vec<u8>,
-    ours: (u8, usize, Vec<u8>),
-    theirs: (u8, usize, Vec<u8>),
+    pub start: Start,
+    ours: (Answer, Vec<u8>),
+    theirs: (Answer, Vec<u8>),
 }
 
 impl Run {
     pub fn new(kind: u8, n: usize, schedule: Vec<u8>) -> Run {
-        let logs = || (255, 0, vec![0; 2 * schedule.len()]);
-        Run {
-            kind,
-            n,
-            modulus: if kind == SYMMETRIC { 3 } else { 0 },
-            parents: parents(kind, n),
-            ours: logs(),
-            theirs: logs(),
-            schedule,
-        }
+        let logs = || (UNDONE, vec![0; 2 * schedule.len()]);
+        let (ours, theirs) = (logs(), logs());
+        let modulus = if kind == SYMMETRIC { 3 } else { 0 };
+        let start = Start { kind: kind.into(), n, modulus, parents: parents(kind, n), schedule };
+        Run { start, ours, theirs }
     }
 }
+
+/// What stands for an answer before the work is done.
+const UNDONE: Answer = Answer { reason: 255, number: 0 };
 
 /// The binary tree's table for a tree, and none for another kind.
 fn parents(kind: u8, n: usize) -> Vec<u8> {
@@ -84,51 +80,43 @@ fn parents(kind: u8, n: usize) -> Vec<u8> {
 impl Work for Run {
     fn clear(&mut self) {
         for answer in [&mut self.ours, &mut self.theirs] {
-            answer.0 = 255;
-            answer.1 = 0;
-            answer.2.fill(0);
+            answer.0 = UNDONE;
+            answer.1.fill(0);
         }
     }
 
     fn library(&mut self) {
-        let (kind, modulus) = (self.kind.into(), self.modulus.into());
-        let log = &mut self.ours.2;
-        let answer = library::run(kind, self.n, modulus, &self.parents, &self.schedule, log);
-        (self.ours.0, self.ours.1) = answer;
+        self.ours.0 = library::run(&self.start, &mut self.ours.1);
     }
 
     fn baseline(&mut self) {
+        let Start { kind, n, modulus, parents, schedule } = &self.start;
         let mut state = State::ZERO;
-        let (kind, n, modulus) = (self.kind.into(), self.n as u64, self.modulus.into());
-        let turns = self.schedule.len() as u64;
-        if let Err(refusal) = fresh(&mut state, kind, n, modulus, &self.parents) {
-            self.theirs.0 = refusal.number();
+        if fresh(&mut state, *kind as u64, *n as u64, *modulus as u64, parents).is_err() {
             return;
         }
-        let report = run(&mut state, &self.schedule, turns, &mut self.theirs.2);
-        self.theirs.1 = report.turns;
-        self.theirs.0 = match report.ending {
-            Ending::Done | Ending::Spent => 0,
-            Ending::Stopped(refusal) | Ending::Refused(refusal) => refusal.number(),
-        };
+        let report = run(&mut state, schedule, schedule.len() as u64, &mut self.theirs.1);
+        if report.ending == Ending::Done {
+            self.theirs.0 = Answer { reason: 0, number: report.turns };
+        }
     }
 
     fn compare(&self) {
-        assert!(self.ours.0 == 0 && self.ours == self.theirs, "the runs differ");
+        assert!(self.ours.0.reason == 0 && self.ours == self.theirs, "the runs differ");
     }
 }
 
 /// The passes of a schedule, with their pairs.
 pub struct Cut {
     n: usize,
-    pub schedule: Vec<u8>,
-    ours: (usize, Vec<u32>),
-    theirs: (usize, Vec<u32>),
+    schedule: Vec<u8>,
+    ours: (Answer, Vec<u32>),
+    theirs: (Answer, Vec<u32>),
 }
 
 impl Cut {
     pub fn new(n: usize, schedule: Vec<u8>) -> Cut {
-        let lists = || (usize::MAX, vec![0; 2 * schedule.len()]);
+        let lists = || (UNDONE, vec![0; 2 * schedule.len()]);
         Cut { n, ours: lists(), theirs: lists(), schedule }
     }
 }
@@ -136,42 +124,41 @@ impl Cut {
 impl Work for Cut {
     fn clear(&mut self) {
         for answer in [&mut self.ours, &mut self.theirs] {
-            answer.0 = usize::MAX;
+            answer.0 = UNDONE;
             answer.1.fill(0);
         }
     }
 
     fn library(&mut self) {
-        let (reason, count) = library::passes(self.n, &self.schedule, &mut self.ours.1);
-        self.ours.0 = if reason == 0 { count } else { usize::MAX };
+        self.ours.0 = library::passes(self.n, &self.schedule, &mut self.ours.1);
     }
 
     fn baseline(&mut self) {
         let counted = passes::passes(self.n as u64, &self.schedule, &mut self.theirs.1);
-        self.theirs.0 = counted.unwrap_or(usize::MAX);
+        self.theirs.0 = counted.map_or(UNDONE, |number| Answer { reason: 0, number });
     }
 
     fn compare(&self) {
-        assert!(self.ours.0 != usize::MAX && self.ours == self.theirs, "the passes differ");
+        assert!(self.ours.0.reason == 0 && self.ours == self.theirs, "the passes differ");
     }
 }
 
 /// The sheet of a text.
 pub struct Sheet {
     pub text: Vec<u8>,
-    ours: ([u8; 2048], usize),
+    ours: ([u8; PAGE], usize),
     theirs: String,
 }
 
 impl Sheet {
     pub fn new(text: Vec<u8>) -> Sheet {
-        Sheet { text, ours: ([0; 2048], 0), theirs: String::new() }
+        Sheet { text, ours: ([0; PAGE], 0), theirs: String::new() }
     }
 }
 
 impl Work for Sheet {
     fn clear(&mut self) {
-        self.ours = ([0; 2048], 0);
+        self.ours = ([0; PAGE], 0);
         self.theirs.clear();
     }
 

@@ -8,8 +8,10 @@ pub mod malformed;
 mod ranges;
 mod refusals;
 pub mod scenes;
+mod steps;
 mod table;
 mod trees;
+mod values;
 
 use super::random::Random;
 use super::recorder::Recorder;
@@ -19,9 +21,6 @@ use std::path::Path;
 
 /// The seed of the stored random cases.
 const SEED: u64 = 20_230_924;
-
-/// The task counts of the stored random cases.
-pub const TASK_COUNTS: [usize; 9] = [1, 2, 3, 5, 8, 12, 31, 63, 64];
 
 /// Writes the stored cases to the files `stdin` and `stdout`. Gives the number of requests.
 pub fn write(folder: &Path) -> io::Result<usize> {

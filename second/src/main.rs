@@ -3,6 +3,7 @@
 
 mod cases;
 mod machine;
+mod parents;
 mod passes;
 mod random;
 mod recorder;
@@ -12,7 +13,9 @@ mod schedules;
 mod serve;
 mod shapes;
 mod sheet;
+mod sheets;
 mod soak;
+mod spelling;
 
 #[cfg(test)]
 mod tests;
@@ -27,6 +30,7 @@ usage:
   second write DIR                write the stored cases to DIR/stdin and DIR/stdout
   second answer                   answer the requests on standard input
   second sheet                    print the sheet of the text on standard input
+  second sheets DIR               write the sheet texts to DIR/NAME.text, their sheets beside them
   second random SEED COUNT        print so many random requests
   second soak MINUTES COMMAND..   hold random requests against another program
 ";
@@ -37,33 +41,39 @@ fn main() -> ExitCode {
     let arguments = arguments.unwrap_or_default();
     let arguments: Vec<&str> = arguments.iter().map(String::as_str).collect();
     match command(&arguments) {
-        Some(Ok(true)) => ExitCode::SUCCESS,
-        Some(Ok(false)) => ExitCode::FAILURE,
-        Some(Err(error)) => {
+        Ok(Ok(true)) => ExitCode::SUCCESS,
+        Ok(Ok(false)) => ExitCode::FAILURE,
+        Ok(Err(error)) => {
             eprintln!("second: {error}");
             ExitCode::FAILURE
         }
-        None => {
-            eprint!("{USAGE}");
+        Err(wrong) => {
+            eprint!("second: {wrong}\n{USAGE}");
             ExitCode::from(2)
         }
     }
 }
 
-/// Carries out a command. Gives none if there is no such command, and false if it found fault.
-fn command(arguments: &[&str]) -> Option<io::Result<bool>> {
+/// Carries out a command, which gives false if it found fault. Where the command is wrong,
+/// nothing is done, and the words that say why are given.
+fn command(arguments: &[&str]) -> Result<io::Result<bool>, &'static str> {
     match arguments {
-        ["write", folder] => Some(write(Path::new(folder)).map(|()| true)),
-        ["answer"] => Some(answer().map(|()| true)),
-        ["sheet"] => Some(sheet().map(|()| true)),
+        ["write", folder] => Ok(write(Path::new(folder)).map(|()| true)),
+        ["answer"] => Ok(answer().map(|()| true)),
+        ["sheet"] => Ok(sheet().map(|()| true)),
+        ["sheets", folder] => Ok(sheets(Path::new(folder)).map(|()| true)),
         ["random", seed, count] => {
-            let (seed, count) = (seed.parse().ok()?, count.parse().ok()?);
-            Some(random(seed, count).map(|()| true))
+            let numbers = "SEED and COUNT are whole numbers";
+            let seed = seed.parse().map_err(|_| numbers)?;
+            let count = count.parse().map_err(|_| numbers)?;
+            Ok(random(seed, count).map(|()| true))
         }
         ["soak", minutes, other @ ..] if !other.is_empty() => {
-            Some(soak::soak(minutes.parse().ok()?, other))
+            let time = soak::time(minutes);
+            let time = time.ok_or("MINUTES is a number above 0, such as 10 or 0.5")?;
+            Ok(soak::soak(time, other))
         }
-        _ => None,
+        _ => Err("no such command"),
     }
 }
 
@@ -85,6 +95,12 @@ fn sheet() -> io::Result<()> {
     let most = sheet::MAX_TEXT as u64 + 1;
     io::stdin().lock().take(most).read_to_end(&mut text)?;
     io::stdout().write_all(sheet::sheet(&text).as_bytes())
+}
+
+fn sheets(folder: &Path) -> io::Result<()> {
+    let count = sheets::write(folder)?;
+    println!("{count} texts");
+    Ok(())
 }
 
 fn random(seed: u64, count: usize) -> io::Result<()> {

@@ -18,9 +18,18 @@ const BATCH: usize = 2_000;
 /// How often progress is told where there is no terminal.
 const SELDOM: Duration = Duration::from_secs(30);
 
-/// Soaks for some minutes. Gives whether all answers were the same.
-pub fn soak(minutes: f64, other: &[&str]) -> io::Result<bool> {
-    let time = Duration::try_from_secs_f64(60.0 * minutes).map_err(io::Error::other)?;
+/// The time that so many minutes are; none unless they are a number above 0 that isn't endless.
+pub fn time(minutes: &str) -> Option<Duration> {
+    let minutes: f64 = minutes.parse().ok()?;
+    if minutes > 0.0 {
+        Duration::try_from_secs_f64(60.0 * minutes).ok()
+    } else {
+        None
+    }
+}
+
+/// Soaks for some time. Gives whether all answers were the same.
+pub fn soak(time: Duration, other: &[&str]) -> io::Result<bool> {
     let programs = Programs::new(other)?;
     let mut progress = Progress::new(time);
     let first_seed = seed_of_the_clock();
@@ -106,8 +115,9 @@ impl Progress {
         Progress { begin, time, batches: 0, requests: 0, told: begin }
     }
 
+    /// Whether the time is up. One batch is sent in any case: a soak of nothing would say nothing.
     fn is_over(&self) -> bool {
-        self.begin.elapsed() >= self.time
+        self.batches > 0 && self.begin.elapsed() >= self.time
     }
 
     /// Counts a batch and tells of it: on one line of a terminal, elsewhere now and then.
@@ -136,5 +146,15 @@ impl fmt::Display for Progress {
         let (batches, requests) = (self.batches, self.requests);
         let seconds = self.begin.elapsed().as_secs();
         write!(out, "{batches} batches, {requests} requests, {seconds} s")
+    }
+}
+
+#[test]
+fn minutes_are_a_number_above_0() {
+    for minutes in ["10", "0.5", ".5", "1e-9"] {
+        assert!(time(minutes).is_some(), "{minutes}");
+    }
+    for minutes in ["", "x", "0", "-0", "-1", "nan", "-nan", "inf", "-inf", "1e300", "1 ", "10m"] {
+        assert!(time(minutes).is_none(), "{minutes}");
     }
 }

@@ -4,6 +4,7 @@
 mod calls;
 mod reach;
 mod refusals;
+mod sheets;
 mod table;
 mod texts;
 mod traps;

@@ -1,39 +1,55 @@
 -- What is proved of each barrier: the record of its laws.
 use mathlib.Core.Path.{_≡_}
-use mathlib.Core.Bool.{true}
-use mathlib.Core.Logic.{_≢_}
+use mathlib.Core.List.{List}
 use Prim.Native.Nat.{ℕ, _+_, _*_, _≤_, _<_}
+use lib.Dec.{eqb}
+use Rattle.bitset.specs.Choice.{pick}
+use Rattle.lines.specs.declared.Task.{Task}
+use Rattle.lines.specs.declared.Act.the-variants.{Moves}
+use Rattle.lines.specs.Setters.{withToggle, withFlag}
+use Rattle.lines.specs.Common.{maxCount}
 use Rattle.machine.specs.declared.State.{State}
 use Rattle.machine.specs.Setters.{taskAt}
 use Rattle.machine.specs.Fresh.{Inputs, freshReason, freshState}
-use Rattle.machine.specs.Range.{maxCount, Valid}
-use Rattle.machine.specs.Turn.{effectOf, turnOf, isMoved}
+use Rattle.machine.specs.Range.{Valid, tableOf}
+use Rattle.machine.specs.Turn.{effectOf, turnOf}
 use Rattle.machine.specs.Least.{least}
+use Rattle.barrier.specs.View.{View, viewOf}
 
 -- a known task whose line can move
 abbrev pub Able : State → ℕ → Type 0
-Able s p = (p < s .n) × (isMoved (effectOf s p .outcome) ≡ true)
+Able s p = (p < s .n) × (effectOf s p .act ≡ Moves)
+
+-- a state in range, of this kind, whose view has the invariant
+pub record Holds (of : ℕ) (Inv : View → Type 0) (s : State) : Type 0 where
+  pub valid : Valid s
+  pub kind : s .kind ≡ of
+  pub inv : Inv (viewOf s)
 
 pub record Barrier (kind : ℕ) : Type 1 where
-  -- the invariant: a fresh state has it, and every turn keeps it, refused and waiting turns too
-  pub Inv : State → Type 0
-  pub in-range : (s : State) → Inv s → Valid s
-  pub of-kind : (s : State) → Inv s → s .kind ≡ kind
-  pub fresh : (i : Inputs) → freshReason i ≡ 0 → i .kind ≡ kind → Inv (freshState i)
-  pub keeps : (s : State) (p : ℕ) → Inv s → Inv (turnOf s p .state)
+  -- the invariant: a fresh state has it, and every move keeps it
+  pub Inv : View → Type 0
+  pub fresh : (i : Inputs) → freshReason i ≡ 0 → i .kind ≡ kind → Inv (viewOf (freshState i))
+  pub keeps : (s : State) (p : ℕ) → Holds kind Inv s → Able s p → Inv (viewOf (turnOf s p .state))
   -- no two counts differ by more than one
-  pub close : (s : State) → Inv s → (q r : ℕ) → q < s .n → r < s .n → taskAt s q .count ≤ taskAt s r .count + 1
+  pub close : (s : State) → Holds kind Inv s → (q r : ℕ) → q < s .n → r < s .n → taskAt s q .count ≤ taskAt s r .count + 1
   -- a task at its own work is never ahead
-  pub behind : (s : State) → Inv s → (q r : ℕ) → q < s .n → r < s .n → taskAt s q .line ≡ 11 → taskAt s q .count ≤ taskAt s r .count
+  pub behind : (s : State) → Holds kind Inv s → (q r : ℕ) → q < s .n → r < s .n → taskAt s q .line ≡ 11 → taskAt s q .count ≤ taskAt s r .count
   -- while the least count is below its limit, some task can move
-  pub someone : (s : State) → Inv s → least s < maxCount → (p : ℕ) × Able s p
-  -- a round of task q has L moves or more, and offset is how far q is in its round
-  pub L : State → ℕ → ℕ
-  pub offset : State → ℕ → ℕ
-  pub within : (s : State) → Inv s → (q : ℕ) → q < s .n → offset s q < L s q
-  pub same-L : (s : State) (p q : ℕ) → L (turnOf s p .state) q ≡ L s q
-  -- a move takes its own task on, and no other
-  pub own : (s : State) (p : ℕ) → Inv s → Able s p
-      → taskAt s p .count * L s p + offset s p < taskAt (turnOf s p .state) p .count * L s p + offset (turnOf s p .state) p
-  pub others : (s : State) (p q : ℕ) → Inv s → Able s p → q < s .n → q ≢ p
-      → taskAt (turnOf s p .state) q .count * L s q + offset (turnOf s p .state) q ≡ taskAt s q .count * L s q + offset s q
+  pub someone : (s : State) → Holds kind Inv s → least s < maxCount → (p : ℕ) × Able s p
+  -- the line that raises the count: the lines from 12 up to it come after the work and before the rise
+  pub rise : ℕ
+  pub counts : (s : State) (p : ℕ) → Holds kind Inv s → Able s p
+      → effectOf s p .task .count ≡ taskAt s p .count + pick (eqb (taskAt s p .line) rise) 1 0
+  -- a round of task q has L moves at most, by N and the table; the offset is how far q is in its round, by the task itself but for its toggle
+  -- and flag, which other tasks write
+  pub L : ℕ → List ℕ → ℕ → ℕ
+  pub offset : ℕ → List ℕ → ℕ → Task → ℕ
+  pub apart : (n : ℕ) (table : List ℕ) (q : ℕ) (t : Task) (x : ℕ)
+      → (offset n table q (withToggle t x) ≡ offset n table q t) × (offset n table q (withFlag t x) ≡ offset n table q t)
+  pub within : (s : State) → Holds kind Inv s → (q : ℕ) → q < s .n → offset (s .n) (tableOf s) q (taskAt s q) < L (s .n) (tableOf s) q
+  -- a move takes its own task on by one, and past the places in the round that it skips
+  pub skips : View → ℕ → ℕ
+  pub own : (s : State) (p : ℕ) → Holds kind Inv s → Able s p
+      → effectOf s p .task .count * L (s .n) (tableOf s) p + offset (s .n) (tableOf s) p (effectOf s p .task)
+      ≡ taskAt s p .count * L (s .n) (tableOf s) p + offset (s .n) (tableOf s) p (taskAt s p) + 1 + skips (viewOf s) p

@@ -1,5 +1,9 @@
--- The laws that each barrier has (`Barrier`), and what they share: sums (`Sum`), the turns that move (`Moves`), and how far a state is (`Place`).
+-- The laws that each barrier has (`Barrier`, over a `View` of the state), and what they share: sums (`Sum`), the turns that move (`Moves`), a
+-- task stored (`Puts`), the moves of a line (`Lines`), and how far a state is (`Place`).
 pub mod Sum
+pub mod View
 pub mod Barrier
 pub mod Moves
+pub mod Puts
+pub mod Lines
 pub mod Place

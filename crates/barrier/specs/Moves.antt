@@ -1,28 +1,60 @@
--- The turns that move, for every barrier.
-use mathlib.Core.Path.{_≡_, refl, sym, subst}
-use mathlib.Core.Bool.{Bool, true, false, false≢true}
-use Prim.Native.Nat.{ℕ}
+-- Turns over views, for every barrier: what a turn that moves leaves, and that every other leaves the view.
+use mathlib.Core.Path.{_≡_, refl, sym, ap, _∙_, subst}
+use mathlib.Core.Logic.{_≢_}
+use Prim.Native.Nat.{ℕ, _<_}
+use Rattle.lines.specs.declared.Task.{Task}
+use Rattle.lines.specs.declared.Effect.{Effect}
+use Rattle.lines.specs.Setters.{withToggle, withFlag}
 use Rattle.machine.specs.declared.State.{State}
-use Rattle.machine.specs.Setters.{withTask}
+use Rattle.machine.specs.declared.Move.the-variants.{Moved, Waited}
+use Rattle.machine.specs.declared.Outcome.{Outcome}
+use Rattle.machine.specs.declared.Outcome.the-variants.{Made, Refused}
+use Rattle.machine.specs.Setters.{taskAt, withTask}
 use Rattle.machine.specs.Range.{Valid}
-use Rattle.machine.specs.Turn.{effectOf, written, turnOf, isMoved}
-use Rattle.machine.specs.TurnLaws.{by-turn, turn-still, turn-moved, step-outcome}
-use Rattle.barrier.specs.Barrier.{Able}
+use Rattle.machine.specs.Turn.{effectOf, written, turnOf}
+use Rattle.machine.specs.TurnLaws.{effect-rule, moved-acts, refused-still, waited-still, turn-moved, turn-constants, own-field, other-field}
+use Rattle.machine.specs.RangeLaws.{range, present}
+use Rattle.machine.specs.KeepLaws.{turn-valid}
+use Rattle.barrier.specs.View.{View, viewOf, effectAt}
+use Rattle.barrier.specs.Barrier.{Able, Holds, Barrier}
 
--- a turn that is answered moved is one of a task that can move
-pub moved-able : (s : State) (p : ℕ) → isMoved (turnOf s p .outcome) ≡ true → Able s p
-moved-able s p =
-    by-turn (λ r. isMoved (r .outcome) ≡ true → Able s p) s p (λ k e. absurd (false≢true e))
-    (λ ok h e. (h, rw (step-outcome s p) at e))
-
--- what holds of the state before, and of the state after a move, holds of the state after every turn
-pub by-move : (P : State → Type 0) (s : State) (p : ℕ) → P s → (Able s p → P (turnOf s p .state)) → P (turnOf s p .state)
-by-move P s p same moved = go (isMoved (turnOf s p .outcome)) refl
+-- what is shown of the view after a turn that moves, and of the view before, is shown of the view after every turn
+pub by-move {ℓ} : (P : View → Type ℓ) (s : State) (p : ℕ) → P (viewOf s) → (Able s p → P (viewOf (turnOf s p .state))) → P (viewOf (turnOf s p .state))
+by-move P s p same moved = go (turnOf s p .outcome) refl
   where
-    go : (b : Bool) → isMoved (turnOf s p .outcome) ≡ b → P (turnOf s p .state)
-    go true e = moved (moved-able s p e)
-    go false e = subst P (sym (turn-still s p e)) same
+    go : (o : Outcome) → turnOf s p .outcome ≡ o → P (viewOf (turnOf s p .state))
+    go (Made Moved) e = moved (moved-acts s p e)
+    go (Made Waited) e = subst (λ (x : State). P (viewOf x)) (sym (waited-still s p e)) same
+    go (Refused k) e = subst (λ (x : State). P (viewOf x)) (sym (refused-still s p k e)) same
 
 -- a move stores its own task, and then writes its word
 pub moved-state : (s : State) (p : ℕ) → Valid s → Able s p → turnOf s p .state ≡ written (effectOf s p .write) (withTask s p (effectOf s p .task))
 moved-state s p ok able = turn-moved s p ok (able .0) (able .1)
+
+-- after a move the own task is the effect's, and every other as it was, but for toggles and flags, which a move of another task may write
+module _ {A : Type 0} (f : Task → A) (apart : (t : Task) (x : ℕ) → (f (withToggle t x) ≡ f t) × (f (withFlag t x) ≡ f t))
+    (s : State) (p : ℕ) (ok : Valid s) (able : Able s p) where
+  pub own-after : f (taskAt (turnOf s p .state) p) ≡ f (effectOf s p .task)
+  own-after =
+      rw (moved-state s p ok able)
+      (own-field f apart (effectOf s p .write) s p (effectOf s p .task) (present s p (range s ok .tasks p (able .0) .line-from)))
+
+  pub other-after : (q : ℕ) → q ≢ p → f (taskAt (turnOf s p .state) q) ≡ f (taskAt s q)
+  other-after q ne = rw (moved-state s p ok able) (other-field f apart (effectOf s p .write) s p q (effectOf s p .task) ne)
+
+-- who can move is told by the kind and the view
+pub able-view : (s s′ : State) (q : ℕ) → s′ .kind ≡ s .kind → viewOf s′ ≡ viewOf s → Able s q → Able s′ q
+able-view s s′ q k v a = (
+  subst (λ (x : View). q < x .n) (sym v) (a .0),
+  ap (λ (x : Effect). x .act) (effect-rule s′ q) ∙ ap (λ (x : ℕ). effectAt x (viewOf s′) q .act) k ∙ ap (λ (x : View). effectAt (s .kind) x q .act) v
+      ∙ ap (λ (x : Effect). x .act) (sym (effect-rule s q)) ∙ a .1,
+)
+
+-- every turn keeps what a barrier's invariant says of a state
+pub keeps-all : {kind : ℕ} (b : Barrier kind) (s : State) (p : ℕ) → Holds kind (b .Inv) s → Holds kind (b .Inv) (turnOf s p .state)
+keeps-all b s p i =
+    record {
+      valid = turn-valid s p (i .valid);
+      kind = turn-constants s p .kind ∙ i .kind;
+      inv = by-move (b .Inv) s p (i .inv) (b .keeps s p i);
+    }

@@ -1,5 +1,8 @@
--- The definitions of the crate (`Choice`, `Tasks`, `Set`), and the laws of sets (`SetLaws`).
+-- The definitions of the crate (`Choice`, `Table`, `Tasks`, `Set`), then their laws.
 pub mod Choice
+pub mod Table
 pub mod Tasks
 pub mod Set
+pub mod ChoiceLaws
+pub mod TableLaws
 pub mod SetLaws

@@ -130,6 +130,11 @@ without-same list k = put-same list k 0 (omega arith)
 pub without-other : (list k j : ℕ) → j ≢ k → bit (withoutOf list k) j ≡ bit list j
 without-other list k j ne = put-other list k 0 j (omega arith) ne
 
+-- the empty set has no task
+pub size-zero : sizeOf 0 ≡ 0
+unfolding ones
+size-zero = refl
+
 -- taking off a member lowers the size by one
 pub without-size : (list k : ℕ) → bit list k ≡ 1 → sizeOf (withoutOf list k) + 1 ≡ sizeOf list
 without-size list k e = omega (arith, put-ones list k 0 (omega arith))

@@ -68,4 +68,4 @@ M s =
     pick (eqb (s .kind) 0) (s .n * (2 * s .n + 3))
     (pick (eqb (s .kind) 1) (5 * s .n)
     (pick (eqb (s .kind) 2) (5 * s .n)
-    (10 * s .n - 3)))
+    (pick (eqb (s .kind) 3) (10 * s .n - 3) 0)))

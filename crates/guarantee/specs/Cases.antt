@@ -1,6 +1,5 @@
--- The twelve marked cases of 01's table, one claim over the definitions, shown by computation.
+-- The twelve marked cases of 01's table, one claim over the definitions that the contracts cite, shown by computation.
 use mathlib.Core.Path.{_≡_, refl}
-use mathlib.Core.Bool.{Bool, true, false}
 use mathlib.Core.List.{List, [], _∷_}
 use Prim.Native.Nat.{ℕ}
 use lib.ListN.{replicate}
@@ -9,21 +8,26 @@ use Rattle.machine.specs.declared.Setup.{Setup}
 use Rattle.machine.specs.Setters.{taskAt}
 use Rattle.machine.specs.Fresh.{inputsOf, freshOf, freshReason}
 use Rattle.machine.specs.Range.{taskOk, taskZero, tasksOk, allZero, stateOk, checkState}
-use Rattle.machine.specs.Symmetric.{symmetricLine}
-use Rattle.machine.specs.Increment.{incrementLine}
-use Rattle.machine.specs.Ring.{ringLine}
-use Rattle.machine.specs.Tree.{treeLine}
-use Rattle.machine.specs.Turn.{effectOf, stepOf, turnOf, isMoved}
+use Rattle.lines.specs.Symmetric.{symmetricLine}
+use Rattle.lines.specs.Increment.{incrementLine}
+use Rattle.lines.specs.Ring.{ringLine}
+use Rattle.lines.specs.Tree.{treeGather, treeMeet, treeRelease}
+use Rattle.machine.specs.declared.Move.the-variants.{Moved, Waited}
+use Rattle.machine.specs.declared.Outcome.{Outcome}
+use Rattle.machine.specs.declared.Outcome.the-variants.{Made}
+use Rattle.machine.specs.Turn.{effectOf, stepOf, turnOf}
+use Rattle.bitset.specs.Table.{table}
 use Rattle.bitset.specs.Set.{put, withinDigits}
-use Rattle.parents.specs.Shapes.{shapeTable}
+use Rattle.parents.specs.Shapes.{shapeTable, shapeOf, tableAfter}
 use Rattle.schedule.specs.Stretch.{namesAll}
-use Rattle.schedule.specs.Passes.{passesFrom, passesOf, pairsFrom}
+use Rattle.schedule.specs.declared.answer.Passes.the-variants.{Count}
+use Rattle.schedule.specs.Passes.{passesFrom, pairsFrom, unknownAt, passesAnswer, pairsAfter}
 use Rattle.parents.specs.Parents.{entriesOk, checkOf, childrenBelow}
 use lib.Count.{trailingZeros}
 
 -- Every definition that the cases compute by: a proof that unfolds this one unfolds them.
 computing : ℕ
-unfolding freshOf freshReason turnOf stepOf effectOf checkState stateOk tasksOk taskOk taskZero allZero symmetricLine incrementLine ringLine treeLine withinDigits put trailingZeros entriesOk checkOf childrenBelow namesAll passesFrom pairsFrom shapeTable
+unfolding freshOf freshReason turnOf stepOf effectOf checkState stateOk tasksOk taskOk taskZero allZero symmetricLine incrementLine ringLine treeGather treeMeet treeRelease table withinDigits put trailingZeros entriesOk checkOf childrenBelow namesAll passesFrom pairsFrom unknownAt passesAnswer pairsAfter shapeTable shapeOf tableAfter
 computing = 0
 
 abbrev pub setup : ℕ → ℕ → ℕ → Setup
@@ -45,10 +49,16 @@ abbrev pub lines : State → List ℕ → List ℕ
 lines s [] = []
 lines s (p ∷ ts) = taskAt (turnOf s p .state) p .line ∷ lines (turnOf s p .state) ts
 
--- whether each turn moved
-abbrev pub moved : State → List ℕ → List Bool
-moved s [] = []
-moved s (p ∷ ts) = isMoved (turnOf s p .outcome) ∷ moved (turnOf s p .state) ts
+-- what each turn answers
+abbrev pub answers : State → List ℕ → List Outcome
+answers s [] = []
+answers s (p ∷ ts) = turnOf s p .outcome ∷ answers (turnOf s p .state) ts
+
+abbrev moved : Outcome
+moved = Made Moved
+
+abbrev waited : Outcome
+waited = Made Waited
 
 -- "The sheet's input above", and the ring's ten turns
 abbrev pub sheet-end : State
@@ -71,13 +81,13 @@ pub record Marked : Type 0 where
   pub sheet : (taskAt sheet-end 0 .line ≡ 11) × (taskAt sheet-end 1 .line ≡ 11) × (taskAt sheet-end 0 .count ≡ 1) × (taskAt sheet-end 1 .count ≡ 1)
       × (sheet-end .sense ≡ 0) × (sheet-end .arrivals ≡ 0)
   -- "Ring, N 2, turns 1 1: moved, waited; task 1 at 12."
-  pub ring-waits : (moved (fresh 2 2 0 []) (1 ∷ 1 ∷ []) ≡ true ∷ false ∷ []) × (taskAt (after (fresh 2 2 0 []) (1 ∷ 1 ∷ [])) 1 .line ≡ 12)
+  pub ring-waits : (answers (fresh 2 2 0 []) (1 ∷ 1 ∷ []) ≡ moved ∷ waited ∷ []) × (taskAt (after (fresh 2 2 0 []) (1 ∷ 1 ∷ [])) 1 .line ≡ 12)
   -- "Ring, N 2, turns 0 0 0 1 1 1 0 0 1 1: all moved; both at 11, counts 1, toggles 0."
-  pub ring-round : (moved (fresh 2 2 0 []) ring-turns ≡ replicate 10 true)
+  pub ring-round : (answers (fresh 2 2 0 []) ring-turns ≡ replicate 10 moved)
       × (taskAt ring-end 0 .line ≡ 11) × (taskAt ring-end 1 .line ≡ 11) × (taskAt ring-end 0 .count ≡ 1) × (taskAt ring-end 1 .count ≡ 1)
       × (taskAt ring-end 0 .toggle ≡ 0) × (taskAt ring-end 1 .toggle ≡ 0)
   -- "Tree, parents 0 0, turns 0 0 0 0: the fourth waited at 14."
-  pub tree-waits : (moved tree-pair (replicate 4 0) ≡ true ∷ true ∷ true ∷ false ∷ []) × (taskAt (after tree-pair (replicate 4 0)) 0 .line ≡ 14)
+  pub tree-waits : (answers tree-pair (replicate 4 0) ≡ moved ∷ moved ∷ moved ∷ waited ∷ []) × (taskAt (after tree-pair (replicate 4 0)) 0 .line ≡ 14)
   -- "Tree, N 1, seven turns: lines 12, 13, 15, 16, 17, 18, 11."
   pub tree-one : lines (fresh 3 1 0 (0 ∷ [])) (replicate 7 0) ≡ 12 ∷ 13 ∷ 15 ∷ 16 ∷ 17 ∷ 18 ∷ 11 ∷ []
   -- "R 2 refused 4, R 3 accepted."
@@ -87,11 +97,12 @@ pub record Marked : Type 0 where
   -- "Parents 0 1 refused 6, 0 0 accepted."
   pub parents : (reason 3 2 0 (0 ∷ 1 ∷ []) ≡ 6) × (reason 3 2 0 (0 ∷ 0 ∷ []) ≡ 0)
   -- "N 2, schedule 0 0 1 0 1 1: pairs (0, 3), (3, 2)."
-  pub pairs : pairsFrom 0 (passesOf 2 (0 ∷ 0 ∷ 1 ∷ 0 ∷ 1 ∷ 1 ∷ [])) ≡ 0 ∷ 3 ∷ 3 ∷ 2 ∷ []
+  pub pairs : (passesAnswer 2 (0 ∷ 0 ∷ 1 ∷ 0 ∷ 1 ∷ 1 ∷ []) 4 ≡ Count 2)
+      × (pairsAfter 2 (0 ∷ 0 ∷ 1 ∷ 0 ∷ 1 ∷ 1 ∷ []) (replicate 4 9) ≡ 0 ∷ 3 ∷ 3 ∷ 2 ∷ [])
   -- "N 6, binary 0 0 0 1 1 2."
-  pub binary : shapeTable 2 6 ≡ 0 ∷ 0 ∷ 0 ∷ 1 ∷ 1 ∷ 2 ∷ []
+  pub binary : (shapeOf 2 6 6 ≡ 0) × (tableAfter 2 6 (replicate 6 9) ≡ 0 ∷ 0 ∷ 0 ∷ 1 ∷ 1 ∷ 2 ∷ [])
   -- "N 6, low power 0 0 0 2 0 4."
-  pub low-power : shapeTable 3 6 ≡ 0 ∷ 0 ∷ 0 ∷ 2 ∷ 0 ∷ 4 ∷ []
+  pub low-power : (shapeOf 3 6 6 ≡ 0) × (tableAfter 3 6 (replicate 6 9) ≡ 0 ∷ 0 ∷ 0 ∷ 2 ∷ 0 ∷ 4 ∷ [])
 
 pub marked : Marked
 unfolding computing
@@ -106,7 +117,7 @@ marked =
       modulus = (refl, refl);
       tasks = (refl, refl, refl);
       parents = (refl, refl);
-      pairs = refl;
-      binary = refl;
-      low-power = refl;
+      pairs = (refl, refl);
+      binary = (refl, refl);
+      low-power = (refl, refl);
     }

@@ -1,9 +1,10 @@
 -- What a customer may rely on. `Calls` has the words of demand 3, `Guarantee` the theorem and `Promise` what holds of
--- ready; the others show them. `Cases` has the marked cases of 01's table.
+-- ready; `Reach` and `Done` what else holds of reached states; the others show them. `Cases` has the marked cases of 01's table.
 pub mod Calls
 pub mod Turns
 pub mod Instance
 pub mod Reach
 pub mod Guarantee
 pub mod Promise
+pub mod Done
 pub mod Cases

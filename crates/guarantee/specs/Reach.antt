@@ -1,12 +1,21 @@
--- Every reached state has its barrier's invariant.
+-- Every reached state has its barrier's invariant, and so is in range; and what else is said of reached states.
 use mathlib.Core.Path.{_≡_, refl, sym, subst}
 use mathlib.Core.List.{List, [], _∷_}
-use Prim.Native.Nat.{ℕ, _≤_}
+use mathlib.Core.Logic.{_≢_}
+use Prim.Native.Nat.{ℕ, zero, suc, _≤_, _<_}
+use native.Mathlib.Omega.{arith}
 use Rattle.machine.specs.declared.State.{State}
 use Rattle.machine.specs.Fresh.{Inputs, freshReason, freshOf}
-use Rattle.machine.specs.FreshLaws.{accepted-inputs, fresh-accepted}
-use Rattle.machine.specs.Turn.{turnOf}
-use Rattle.guarantee.specs.Calls.{Call, after, afterAll, counted, countedAll, Reached, fresh, called}
+use Rattle.machine.specs.FreshLaws.{accepted-inputs, fresh-accepted, fresh-valid}
+use Rattle.machine.specs.Range.{Valid}
+use Rattle.machine.specs.Turn.{stepOf, turnOf, reasonNumber}
+use Rattle.machine.specs.TurnLaws.{turn-step}
+use Rattle.machine.specs.CountLaws.{seven-of-kind-1}
+use Rattle.barrier.specs.Barrier.{Holds}
+use Rattle.barrier.specs.Moves.{keeps-all}
+use Rattle.increment.specs.Increment.{increment}
+use Rattle.increment.specs.Safe.{never-7}
+use Rattle.guarantee.specs.Calls.{Call, turn, after, afterAll, counted, countedAll, Reached, fresh, called}
 use Rattle.guarantee.specs.Turns.{afterTurns, Leads, leads-call, leads-all}
 use Rattle.guarantee.specs.Instance.{barrierOf}
 
@@ -14,12 +23,12 @@ use Rattle.guarantee.specs.Instance.{barrierOf}
 pub record Known (s : State) : Type 0 where
   pub kind : ℕ
   pub low : kind ≤ 3
-  pub inv : barrierOf kind low .Inv s
+  pub inv : Holds kind (barrierOf kind low .Inv) s
 
 known-turns : (s : State) (ts : List ℕ) → Known s → Known (afterTurns s ts)
 known-turns s [] k = k
 known-turns s (p ∷ ts) k =
-    known-turns (turnOf s p .state) ts (record { kind = k .kind; low = k .low; inv = barrierOf (k .kind) (k .low) .keeps s p (k .inv) })
+    known-turns (turnOf s p .state) ts (record { kind = k .kind; low = k .low; inv = keeps-all (barrierOf (k .kind) (k .low)) s p (k .inv) })
 
 -- turns that lead from one state to another take the invariant there
 known-led : (s s′ : State) (ts : List ℕ) → Leads s ts s′ → Known s → Known s′
@@ -28,7 +37,8 @@ known-led s s′ ts l k = subst Known (l .to) (known-turns s ts k)
 known-fresh : (i : Inputs) → freshReason i ≡ 0 → Known (freshOf i .state)
 known-fresh i e =
     let low = accepted-inputs i e .kind in
-    subst Known (sym (fresh-accepted i e)) (record { kind = i .kind; low = low; inv = barrierOf (i .kind) low .fresh i e refl })
+    subst Known (sym (fresh-accepted i e))
+    (record { kind = i .kind; low = low; inv = record { valid = fresh-valid i e; kind = refl; inv = barrierOf (i .kind) low .fresh i e refl } })
 
 pub known : (s : State) → Reached s → Known s
 known s (fresh i e) = known-fresh i e
@@ -36,3 +46,26 @@ known s (called t r c) = known-led t (after t c) (counted t c) (leads-call t c) 
 
 pub known-after : (s : State) (cs : List Call) → Reached s → Known (afterAll s cs)
 known-after s cs r = known-led s (afterAll s cs) (countedAll s cs) (leads-all s cs) (known s r)
+
+-- ---- what follows for a reached state
+
+-- it is in range
+pub reached-valid : (s : State) → Reached s → Valid s
+reached-valid s r = known s r .inv .valid
+
+-- a step of one of its tasks is reached too
+pub reached-step : (s : State) (p : ℕ) → Reached s → p < s .n → Reached (stepOf s p .state)
+reached-step s p r h = subst (λ t. Reached (t .state)) (turn-step s p (reached-valid s r) h) (called s r (turn p))
+
+-- 01, reason 7: "at a turn, the task is at 13 of kind 1 with arrivals already N, which no fresh state leads to"
+pub reached-7 : (s : State) (p : ℕ) → Reached s → reasonNumber (turnOf s p .outcome) ≢ 7
+unfolding barrierOf increment
+reached-7 s p r e = go (k .kind) (k .low) (k .inv)
+  where
+    k : Known s
+    k = known s r
+
+    go : (kind : ℕ) (h : kind ≤ 3) → Holds kind (barrierOf kind h .Inv) s → ⊥
+    go zero h i = omega (arith, seven-of-kind-1 s p (i .valid) e, i .kind)
+    go (suc zero) h i = never-7 s i p e
+    go (suc (suc kind)) h i = omega (arith, seven-of-kind-1 s p (i .valid) e, i .kind)

@@ -11,8 +11,8 @@ use Rattle.bitset.specs.Choice.{pick}
 use Rattle.machine.specs.declared.State.{State}
 use Rattle.machine.specs.declared.Outcome.{Outcome}
 use Rattle.machine.specs.declared.Outcome.the-variants.{Made, Refused}
-use Rattle.machine.specs.Turn.{turnOf, reasonNumber, isMoved}
-use Rattle.machine.specs.TurnLaws.{turn-still}
+use Rattle.machine.specs.Turn.{turnOf, reasonNumber}
+use Rattle.machine.specs.TurnLaws.{refused-still}
 use Rattle.progress.specs.Counting.{AllCount}
 use Rattle.progress.specs.Counting
 use Rattle.runner.specs.Trace.{Trace, turned, traceOf, countedIn}
@@ -44,10 +44,6 @@ leads-append s [] us s′ s″ a b = subst (λ (x : State). Leads x us s″) (sy
 leads-append s (p ∷ ts) us s′ s″ a b =
     let r = leads-append (turned-to s p) ts us s′ s″ (record { to = a .to; counts = a .counts .1 }) b in
     record { to = r .to; counts = (a .counts .0, r .counts) }
-
--- a refused turn leaves the state
-refused-still : (s : State) (p k : ℕ) → turnOf s p .outcome ≡ Refused k → turnOf s p .state ≡ s
-refused-still s p k e = turn-still s p (ap isMoved e)
 
 -- a single turn
 leads-turn : (s : State) (p : ℕ) → Leads s (countedTurn p (turnOf s p .outcome)) (turnOf s p .state)

@@ -3,11 +3,9 @@
 use mathlib.Core.Path.{_≡_}
 use mathlib.Core.Logic.{_≢_}
 use Prim.Native.Nat.{ℕ, _+_, _*_, _≤_, _<_}
-use Rattle.machine.specs.declared.Task.{Task}
-use Rattle.machine.specs.declared.State.{State}
-use Rattle.machine.specs.Setters.{taskAt}
-use Rattle.machine.specs.Range.{Valid}
+use Rattle.lines.specs.declared.Task.{Task}
 use Rattle.barrier.specs.Sum.{sum}
+use Rattle.barrier.specs.View.{View}
 
 -- aim ≠ sense, both being 0 or 1
 abbrev pub Opposed : ℕ → ℕ → Type 0
@@ -55,12 +53,7 @@ pub data Phase (n arrivals sense c : ℕ) (t : ℕ → Task) : Type 0 where
   -- Iq7
   cleared : (b : ℕ) → arrivals ≡ 0 → Opening b 15 n sense c t → Phase n arrivals sense c t
 
--- of a state
-abbrev pub PhaseOf : State → ℕ → Type 0
-PhaseOf s c = Phase (s .n) (s .arrivals) (s .sense) c (taskAt s)
-
 -- the invariant; c is the least count while the tasks gather
-pub record Inv (s : State) : Type 0 where
-  pub valid : Valid s
-  pub kind : s .kind ≡ 1
-  pub round : (c : ℕ) × PhaseOf s c
+pub record Inv (v : View) : Type 0 where
+  pub c : ℕ
+  pub phase : Phase (v .n) (v .arrivals) (v .sense) c (v .task)

@@ -3,7 +3,7 @@ use mathlib.Core.Path.{_≡_}
 use Prim.Native.Nat.{ℕ, _+_, _≤_, _<_}
 use native.Mathlib.Decide.{ℕ-discrete}
 use native.Mathlib.Omega.{arith}
-use Rattle.machine.specs.declared.Task.{Task}
+use Rattle.lines.specs.declared.Task.{Task}
 use Rattle.increment.specs.Invariant.{Opposed, Arrived, Stage, outside, entering, leaving, guest, Gathering, Opening, Phase, gathering, full, cleared}
 
 -- ---- by the stage

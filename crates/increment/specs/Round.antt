@@ -1,30 +1,26 @@
--- How far a task is in its round of five moves.
-use mathlib.Core.Path.{_≡_, refl, ap}
-use mathlib.Core.Bool.{true, false≢true}
-use mathlib.Core.Logic.{_≢_}
+-- How far a task is in its round of five places, and where its count rises.
+use mathlib.Core.Path.{_≡_}
+use mathlib.Core.List.{List}
 use Prim.Native.Nat.{ℕ, _+_, _*_, _<_}
 use native.Mathlib.Omega.{arith}
 use lib.Dec.{eqb}
+use borrow.Author.Tests.{eq-eqb, ne-eqb}
 use Rattle.bitset.specs.Choice.{pick}
-use Rattle.machine.specs.declared.Task.{Task}
+use Rattle.bitset.specs.ChoiceLaws.{by-test}
+use Rattle.lines.specs.declared.Task.{Task}
 use Rattle.machine.specs.declared.State.{State}
-use Rattle.machine.specs.declared.Effect.{Effect}
-use Rattle.machine.specs.Setters.{taskAt, withTask, withLine, withAim}
-use Rattle.machine.specs.Lines.{raised}
-use Rattle.machine.specs.Increment.{negated}
-use Rattle.machine.specs.Turn.{effectOf, written, turnOf, isMoved}
-use Rattle.machine.specs.TurnLaws.{by-test}
-use Rattle.barrier.specs.Barrier.{Able}
-use Rattle.barrier.specs.Moves.{moved-state}
-use Rattle.increment.specs.Puts.{Puts, stored}
+use Rattle.machine.specs.Setters.{taskAt}
+use Rattle.machine.specs.Turn.{effectOf}
+use Rattle.barrier.specs.View.{View, viewOf}
+use Rattle.barrier.specs.Barrier.{Able, Holds}
 use Rattle.increment.specs.Invariant.{Inv}
 use Rattle.increment.specs.Lines.{by-line}
 
--- the moves of a round: 13, 14 or none, 15 or 16, 11, 12
-abbrev pub L : State → ℕ → ℕ
-L s q = 5
+-- the places of a round: 13, 14, 15 and 16, 11, 12
+abbrev pub L : ℕ → List ℕ → ℕ → ℕ
+L n table q = 5
 
--- the moves since the count rose, which 13 does; a guest goes to 16, and misses 14
+-- the places since the count rose, which 13 does; 15 and 16 stand at one
 abbrev offsetOf : ℕ → ℕ
 offsetOf line =
     pick (eqb line 14) 0
@@ -33,8 +29,8 @@ offsetOf line =
     (pick (eqb line 13) 4
     1)))
 
-abbrev pub offset : State → ℕ → ℕ
-offset s q = offsetOf (taskAt s q .line)
+abbrev pub offset : ℕ → List ℕ → ℕ → Task → ℕ
+offset n table q t = offsetOf (t .line)
 
 offset-lt : (l : ℕ) → offsetOf l < 5
 offset-lt l =
@@ -43,47 +39,30 @@ offset-lt l =
     (λ _. by-test (λ x. x < 5) (eqb l 12) (λ _. omega arith)
     (λ _. by-test (λ x. x < 5) (eqb l 13) (λ _. omega arith) (λ _. omega arith))))
 
-pub within : (s : State) → Inv s → (q : ℕ) → q < s .n → offset s q < L s q
+pub within : (s : State) → Holds 1 Inv s → (q : ℕ) → q < s .n → offsetOf (taskAt s q .line) < 5
 within s i q h = offset-lt (taskAt s q .line)
 
-pub same-L : (s : State) (p q : ℕ) → L (turnOf s p .state) q ≡ L s q
-same-L s p q = refl
+-- at 13 a task that does not arrive last goes to 16, past 14's place
+abbrev pub skips : View → ℕ → ℕ
+skips v p = pick (eqb (v .task p .line) 13) (pick (eqb (v .arrivals + 1) (v .n)) 0 1) 0
 
-abbrev part : Task → ℕ
-part t = t .count * 5 + offsetOf (t .line)
+-- how far a task that is t is
+abbrev placed : Task → ℕ
+placed t = t .count * 5 + offsetOf (t .line)
 
--- a move stores the task b, and takes the task on by it
-record Onward (s : State) (p : ℕ) (b : Task) (t′ : ℕ → Task) : Type 0 where
-  puts : Puts (taskAt s) p b t′
-  more : part (taskAt s p) < part b
+module _ (s : State) (p : ℕ) (i : Holds 1 Inv s) (a : Able s p) where
+  -- the count rises at 13 alone
+  pub counts : effectOf s p .task .count ≡ taskAt s p .count + pick (eqb (taskAt s p .line) 13) 1 0
+  counts =
+      by-line (λ e. e .task .count ≡ taskAt s p .count + pick (eqb (taskAt s p .line) 13) 1 0) s p (i .kind) a
+      (λ l. rw l (omega arith)) (λ l. rw l (omega arith)) (λ l last. rw l (omega arith)) (λ l more. rw l (omega arith))
+      (λ l. rw l (omega arith)) (λ l. rw l (omega arith)) (λ l _. rw l (omega arith))
 
-abbrev Moves : State → ℕ → Effect → Type 0
-Moves s p e = isMoved (e .outcome) ≡ true → Onward s p (e .task) (taskAt (written (e .write) (withTask s p (e .task))))
-
-module _ (s : State) (p : ℕ) (i : Inv s) (a : Able s p) where
-  onward : Onward s p (effectOf s p .task) (taskAt (turnOf s p .state))
-  onward =
-      rw (moved-state s p (i .valid) a)
-      (by-line s p (i .kind) (Moves s p) (λ e. absurd (false≢true e)) (λ e. absurd (false≢true e)) (λ _ _ e. absurd (false≢true e))
-      (λ l _. to (withLine t 12) (rw l (omega arith)))
-      (λ l _. to (withLine (withAim t (negated (s .sense))) 13) (rw l (omega arith)))
-      (λ l _ _. to (withLine (raised t) 14) (rw l (omega arith)))
-      (λ l _ _. to (withLine (raised t) 16) (rw l (omega arith)))
-      (λ l _. to (withLine t 15) (rw l (omega arith)))
-      (λ l _. to (withLine t 11) (rw l (omega arith)))
-      (λ l _ _. to (withLine t 11) (rw l (omega arith)))
-      (a .1))
-    where
-      t : Task
-      t = taskAt s p
-
-      to : (b : Task) → part t < part b → Onward s p b (taskAt (withTask s p b))
-      to b m = record { puts = stored s p b (i .valid) (a .0); more = m }
-
-  -- a move takes its own task on
-  pub own : taskAt s p .count * L s p + offset s p < taskAt (turnOf s p .state) p .count * L s p + offset (turnOf s p .state) p
-  own = rw (onward .puts .same) (onward .more)
-
-  -- and no other
-  pub others : (q : ℕ) → q ≢ p → taskAt (turnOf s p .state) q .count * L s q + offset (turnOf s p .state) q ≡ taskAt s q .count * L s q + offset s q
-  others q ne = ap part (onward .puts .other q ne)
+  -- a move takes the task on by one, and past what it skips
+  pub own : placed (effectOf s p .task) ≡ placed (taskAt s p) + 1 + skips (viewOf s) p
+  own =
+      by-line (λ e. placed (e .task) ≡ placed (taskAt s p) + 1 + skips (viewOf s) p) s p (i .kind) a
+      (λ l. rw l (omega arith)) (λ l. rw l (omega arith))
+      (λ l last. rw (l, eq-eqb (s .arrivals + 1) (s .n) last) (omega arith))
+      (λ l more. rw (l, ne-eqb (s .arrivals + 1) (s .n) more) (omega arith))
+      (λ l. rw l (omega arith)) (λ l. rw l (omega arith)) (λ l _. rw l (omega arith))

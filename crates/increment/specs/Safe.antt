@@ -5,35 +5,53 @@ use Prim.Native.Nat.{ℕ, _+_, _≤_, _<_}
 use native.Mathlib.Nat.{lt-of-not-le}
 use native.Mathlib.Decide.{decLe}
 use native.Mathlib.Omega.{arith}
+use lib.Dec.{eqb, leb, ltb}
+use borrow.Author.Tests.{leb-true}
+use Rattle.bitset.specs.ChoiceLaws.{by-test}
+use Rattle.lines.specs.declared.Task.{Task}
+use Rattle.lines.specs.declared.Effect.{Effect}
+use Rattle.lines.specs.Common.{maxCount}
+use Rattle.lines.specs.Increment.{increment13}
+use Rattle.lines.specs.LineLaws.{by-increment}
 use Rattle.machine.specs.declared.State.{State}
 use Rattle.machine.specs.Setters.{taskAt}
-use Rattle.machine.specs.Turn.{turnOf, reasonNumber}
-use Rattle.machine.specs.TurnLaws.{turn-step, step-outcome}
-use Rattle.machine.specs.TurnLaws.{turn-unknown}
+use Rattle.machine.specs.Turn.{outcomeOf, turnOf, reasonNumber}
+use Rattle.machine.specs.TurnLaws.{effect-1, turn-step, turn-unknown, step-outcome}
+use Rattle.barrier.specs.Barrier.{Holds}
 use Rattle.increment.specs.Invariant.{Inv}
-use Rattle.increment.specs.Lines.{by-line}
 use Rattle.increment.specs.Phases.{near, early}
 
-module _ (s : State) (i : Inv s) where
+module _ (s : State) (i : Holds 1 Inv s) where
   -- no two counts differ by more than one
   pub close : (q r : ℕ) → q < s .n → r < s .n → taskAt s q .count ≤ taskAt s r .count + 1
-  close q r hq hr = omega (arith, near (i .round .1) q hq .high, near (i .round .1) r hr .low)
+  close q r hq hr = omega (arith, near (i .inv .phase) q hq .high, near (i .inv .phase) r hr .low)
 
   -- BC: a task at its own work is never ahead
   pub behind : (q r : ℕ) → q < s .n → r < s .n → taskAt s q .line ≡ 11 → taskAt s q .count ≤ taskAt s r .count
-  behind q r hq hr l = omega (arith, early (i .round .1) q hq (λ k m a. omega arith) .1, near (i .round .1) r hr .low)
+  behind q r hq hr l = omega (arith, early (i .inv .phase) q hq (λ k m a. omega arith) .1, near (i .inv .phase) r hr .low)
 
   -- no turn is refused 7: at 13 arrivals is below N (Iz1)
   pub never-7 : (p : ℕ) → reasonNumber (turnOf s p .outcome) ≢ 7
   never-7 p = go (decLe (s .n) p)
     where
+      No7 : Effect → Type 0
+      No7 e = reasonNumber (outcomeOf (e .act)) ≢ 7
+
+      t : Task
+      t = taskAt s p
+
+      made : _≢_ {A = ℕ} 0 7
+      made = omega arith
+
+      at-13 : p < s .n → t .line ≡ 13 → No7 (increment13 (s .n) (s .arrivals) t)
+      at-13 h l =
+          by-test No7 (leb (s .n) (s .arrivals))
+          (λ b. absurd (omega (arith, leb-true (s .n) (s .arrivals) b, early (i .inv .phase) p h (λ k m a. omega arith) .0 .few)))
+          (λ _. by-test No7 (ltb (t .count) maxCount) (λ _. made) (λ _. omega arith))
+
       go : Dec (s .n ≤ p) → reasonNumber (turnOf s p .outcome) ≢ 7
       go (yes h) = rw (turn-unknown s p (i .valid) h) (omega arith)
       go (no h) =
-          rw (turn-step s p (i .valid) (lt-of-not-le h), step-outcome s p)
-          (by-line s p (i .kind) (λ e. reasonNumber (e .outcome) ≢ 7) made (omega arith)
-          (λ l few. absurd (omega (arith, early (i .round .1) p (lt-of-not-le h) (λ k m a. omega arith) .0 .few)))
-          (λ _. made) (λ _. made) (λ _ _. made) (λ _ _. made) (λ _. made) (λ _. made) (λ _ _. made))
-        where
-          made : _≢_ {A = ℕ} 0 7
-          made = omega arith
+          rw (turn-step s p (i .valid) (lt-of-not-le h), step-outcome s p, effect-1 s p (i .kind))
+          (by-increment No7 (t .line) t (λ _. made) (λ _. made) (s .n) (s .arrivals) (s .sense)
+          (λ _. made) (at-13 (lt-of-not-le h)) (λ _. made) (λ _. made) (λ _. by-test No7 (eqb (s .sense) (t .aim)) (λ _. made) (λ _. made)))

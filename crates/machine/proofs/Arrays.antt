@@ -1,20 +1,14 @@
--- Arrays: that those of a state have 64 elements, how a task is read, and how a loop fills one from the front.
-use mathlib.Core.Path.{_≡_, refl, sym, ap, _∙_}
-use mathlib.Core.Bool.{Bool, true, false}
+-- Arrays: that those of a state have 64 elements, and how a loop fills one from the front.
+use mathlib.Core.Path.{_≡_, sym, ap, _∙_}
 use mathlib.Core.List.{List, [], _∷_, _++_}
 use Prim.Native.Nat.{ℕ, suc, _+_, _-_, _≤_, _<_, min}
 use native.Mathlib.Decide.{decLt}
 use native.Mathlib.Omega.{arith}
-use lib.Dec.{ltb}
-use lib.ListN.{length, take, drop, getD, set, replicate, length-map, drop-of-length-le, List·getD-eq-default}
+use lib.ListN.{length, take, drop, set, replicate, length-map, drop-of-length-le}
 use lib.Seq.{take-all, set-at, append-snoc}
-use borrow.Author.Tests.{ltb-false}
 use mir.Val.{Val}
 use denote.Laws.{Is}
-use Rattle.bitset.specs.Choice.{pick}
-use Rattle.machine.specs.declared.Task.{Task}
 use Rattle.machine.specs.declared.State.{State}
-use Rattle.machine.specs.Setters.{zeroTask}
 use Rattle.machine.proofs.State.{the-row}
 
 -- what owning a state tells of its arrays' lengths
@@ -37,14 +31,6 @@ take-min n l long = at-most (λ (k : ℕ). take k l) n (λ h. take-all 64 l (ome
 
 pub drop-min : (n : ℕ) (l : List ℕ) → length l ≡ 64 → drop (min n 64) l ≡ drop n l
 drop-min n l long = at-most (λ (k : ℕ). drop k l) n (λ h. drop-of-length-le l {i = 64} (omega arith) ∙ sym (drop-of-length-le l {i = n} (omega arith)))
-
--- what is read at the place of q is the task q
-pub at-place : (ts : List Task) (q : ℕ) → length ts ≡ 64 → pick (ltb q 64) (getD ts (pick (ltb q 64) q 0) zeroTask) zeroTask ≡ getD ts q zeroTask
-at-place ts q long = go (ltb q 64) refl
-  where
-    go : (b : Bool) → ltb q 64 ≡ b → pick b (getD ts (pick b q 0) zeroTask) zeroTask ≡ getD ts q zeroTask
-    go true e = refl
-    go false e = sym (List·getD-eq-default ts zeroTask (omega (arith, ltb-false q 64 e)))
 
 -- the store after q stores, of an array of n that was all d
 pub store-next {ℓ} : {A : Type ℓ} (ys : List A) (n q : ℕ) (a d : A) → length ys ≡ q → q < n

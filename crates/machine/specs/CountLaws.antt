@@ -1,79 +1,115 @@
--- Counts never fall, and so the least count never does.
-use mathlib.Core.Path.{_≡_, refl, sym}
-use mathlib.Core.Bool.{_||_, not}
+-- Counts: a turn keeps a count or raises its task's by one, so that the least count never falls; and when a turn is refused.
+use mathlib.Core.Path.{_≡_, refl, sym, _∙_}
+use mathlib.Core.Logic.{_⊎_, inl, inr, ⊎-elim, _≢_}
 use Prim.Native.Nat.{ℕ, _+_, _≤_, _<_}
-use native.Mathlib.Nat.{le-refl, le-trans, le-of-eq}
-use native.Mathlib.Decide.{ℕ-discrete}
+use native.Mathlib.Decide.{ℕ-discrete, decLt}
 use native.Mathlib.Omega.{arith}
-use lib.Dec.{eqb, leb, ltb}
 use lib.ListN.{length}
-use Rattle.machine.specs.declared.Task.{Task}
+use Rattle.lines.specs.declared.Task.{Task}
+use Rattle.lines.specs.declared.Effect.{Effect}
+use Rattle.lines.specs.declared.Write.{Write}
+use Rattle.lines.specs.Common.{maxCount}
+use Rattle.lines.specs.LineLaws.{Does, keeps, raises, stays, refused-7, refused-11}
 use Rattle.machine.specs.declared.State.{State}
-use Rattle.machine.specs.declared.Effect.{Effect}
-use Rattle.machine.specs.declared.Move.the-variants.{Moved, Waited}
 use Rattle.machine.specs.declared.Outcome.{Outcome}
 use Rattle.machine.specs.declared.Outcome.the-variants.{Made, Refused}
-use Rattle.machine.specs.declared.Write.{Write}
 use Rattle.machine.specs.Setters.{taskAt, withTask}
-use Rattle.machine.specs.Range.{tableOf, maxCount}
-use Rattle.machine.specs.Ring.{nz}
-use Rattle.machine.specs.Turn.{effectOf, written, applied, turnOf}
-use Rattle.machine.specs.TurnLaws.{by-test, by-turn, by-kind, by-symmetric, by-increment, by-ring, by-tree, step-state, turn-constants, own-field, other-field}
+use Rattle.machine.specs.Range.{Valid}
+use Rattle.machine.specs.Turn.{sharedOf, effectOf, outcomeOf, written, applied, turnOf, reasonNumber}
+use Rattle.machine.specs.TurnLaws.{by-turn, turn-step, turn-unknown, effect-does, step-state, step-outcome, turn-constants, own-field, other-field}
 use Rattle.machine.specs.RangeLaws.{range, present}
 use Rattle.machine.specs.Least.{least}
 use Rattle.machine.specs.LeastLaws.{least-le, least-attained}
 
--- a line's task has at least the count it had
-abbrev NoLess : Task → Effect → Type 0
-NoLess t e = t .count ≤ e .task .count
+-- ---- counts
 
-no-less : (s : State) (p : ℕ) → s .kind ≤ 3 → NoLess (taskAt s p) (effectOf s p)
-no-less s p known =
-    by-kind (NoLess t) s p known
-    (λ _. by-symmetric (NoLess t) (t .line) t same (λ _. same) (s .n) (s .modulus) (taskAt s (t .looked) .tag)
-    (λ _. by-test (NoLess t) (ltb (t .count) maxCount) (λ _. more) (λ _. same)) (λ _. by-test (NoLess t) (eqb (t .list) 0) (λ _. same) (λ _. same)) (λ _. by-test (NoLess t) (not (eqb (taskAt s (t .looked) .tag) (t .old))) (λ _. same) (λ _. same)))
-    (λ _. by-increment (NoLess t) (t .line) t same (λ _. same) (s .n) (s .arrivals) (s .sense)
-    (λ _. same) (λ _. by-test (NoLess t) (leb (s .n) (s .arrivals)) (λ _. same) (λ _. by-test (NoLess t) (ltb (t .count) maxCount) (λ _. more) (λ _. same))) (λ _. same) (λ _. same)
-    (λ _. by-test (NoLess t) (eqb (s .sense) (t .aim)) (λ _. same) (λ _. same)))
-    (λ _. by-ring (NoLess t) (t .line) t same (λ _. same) (s .n) p
-    (λ _. by-test (NoLess t) (eqb (t .toggle) (nz p)) (λ _. same) (λ _. same)) (λ _. by-test (NoLess t) (ltb (t .count) maxCount) (λ _. more) (λ _. same))
-    (λ _. by-test (NoLess t) (not (eqb (t .toggle) (nz p))) (λ _. same) (λ _. same)) (λ _. same))
-    (λ _. by-tree (NoLess t) (t .line) t same (λ _. same) (tableOf s) p (taskAt s (t .looked) .flag)
-    (λ _. same) (λ _. by-test (NoLess t) (eqb (t .list) 0) (λ _. same) (λ _. same)) (λ _. by-test (NoLess t) (eqb (taskAt s (t .looked) .flag) 1) (λ _. same) (λ _. same)) (λ _. by-test (NoLess t) (ltb (t .count) maxCount) (λ _. more) (λ _. same))
-    (λ _. by-test (NoLess t) (eqb p 0 || eqb (t .flag) 0) (λ _. same) (λ _. same)) (λ _. same) (λ _. by-test (NoLess t) (eqb (t .list) 0) (λ _. same) (λ _. same)))
-  where
-    t : Task
-    t = taskAt s p
+-- the count of a task before and after a turn: the same, or one more
+abbrev pub KeptOrRaised : ℕ → ℕ → Type 0
+KeptOrRaised c d = (d ≡ c) ⊎ (d ≡ c + 1)
 
-    same : t .count ≤ t .count
-    same = le-refl (t .count)
+module _ (s : State) (p q : ℕ) (here : p < length (s .tasks)) where
+  -- a move whose own task keeps or raises its count
+  moved-count : (u : Task) (w : Write) → KeptOrRaised (taskAt s p .count) (u .count)
+      → KeptOrRaised (taskAt s q .count) (taskAt (written w (withTask s p u)) q .count)
+  moved-count u w c = go (ℕ-discrete q p)
+    where
+      count : Task → ℕ
+      count x = x .count
 
-    more : t .count ≤ t .count + 1
-    more = omega arith
+      go : Dec (q ≡ p) → KeptOrRaised (taskAt s q .count) (taskAt (written w (withTask s p u)) q .count)
+      go (yes e) = rw (e, own-field count (λ x y. (refl, refl)) w s p u here) c
+      go (no ne) = inl (other-field count (λ x y. (refl, refl)) w s p q u ne)
 
-applied-count : (o : Outcome) (s : State) (p q : ℕ) (t : Task) (w : Write) → p < length (s .tasks) → taskAt s p .count ≤ t .count
-    → taskAt s q .count ≤ taskAt (applied o s p t w) q .count
-applied-count (Made Moved) s p q t w h l = go (ℕ-discrete q p)
-  where
-    count : Task → ℕ
-    count x = x .count
+  does-count : (e : Effect) → Does (sharedOf s) (taskAt s p) e
+      → KeptOrRaised (taskAt s q .count) (taskAt (applied (outcomeOf (e .act)) s p (e .task) (e .write)) q .count)
+  does-count _ (keeps {u} {w} c) = moved-count u w (inl c)
+  does-count _ (raises {u} {w} l c) = moved-count u w (inr c)
+  does-count _ stays = inl refl
+  does-count _ (refused-7 k) = inl refl
+  does-count _ (refused-11 l) = inl refl
 
-    go : Dec (q ≡ p) → taskAt s q .count ≤ taskAt (written w (withTask s p t)) q .count
-    go (yes e) = rw e (le-trans l (le-of-eq (sym (own-field count (λ x y. (refl, refl)) w s p t h))))
-    go (no ne) = le-of-eq (sym (other-field count (λ x y. (refl, refl)) w s p q t ne))
-applied-count (Made Waited) s p q t w h l = le-refl (taskAt s q .count)
-applied-count (Refused k) s p q t w h l = le-refl (taskAt s q .count)
+-- a turn keeps every count or raises it by one
+pub turn-counts : (s : State) (p q : ℕ) → KeptOrRaised (taskAt s q .count) (taskAt (turnOf s p .state) q .count)
+turn-counts s p q =
+    by-turn (λ r. KeptOrRaised (taskAt s q .count) (taskAt (r .state) q .count)) s p (λ k. inl refl)
+    (λ ok h. rw (step-state s p) (does-count s p q (present s p (range s ok .tasks p h .line-from)) (effectOf s p) (effect-does s p)))
 
+-- so no count falls, and none rises by more than one
 pub turn-count : (s : State) (p q : ℕ) → taskAt s q .count ≤ taskAt (turnOf s p .state) q .count
-turn-count s p q =
-    by-turn (λ r. taskAt s q .count ≤ taskAt (r .state) q .count) s p (λ k. le-refl (taskAt s q .count))
-    (λ ok h.
-    let r = range s ok in
-    rw (step-state s p)
-    (applied-count (effectOf s p .outcome) s p q (effectOf s p .task) (effectOf s p .write) (present s p (r .tasks p h .line-from)) (no-less s p (r .kind))))
+turn-count s p q = ⊎-elim (λ e. omega arith) (λ e. omega arith) (turn-counts s p q)
 
+pub turn-rises : (s : State) (p q : ℕ) → taskAt (turnOf s p .state) q .count ≤ taskAt s q .count + 1
+turn-rises s p q = ⊎-elim (λ e. omega arith) (λ e. omega arith) (turn-counts s p q)
+
+-- the least count never falls
 pub turn-least : (s : State) (p : ℕ) → 0 < s .n → least s ≤ least (turnOf s p .state)
 turn-least s p h =
     let c = turn-constants s p in
     let a = least-attained (turnOf s p .state) (rw (c .n) h) in
     omega (arith, a .2, turn-count s p (a .0), least-le s (a .0) (rw (c .n) at (a .1)))
+
+-- ---- refusals
+
+-- an answer that is no refusal
+abbrev pub Goes : Outcome → Type 0
+Goes (Made how) = Unit {0}
+Goes (Refused k) = ⊥
+
+-- in a state in range a turn of a known task is refused only 7, in kind 1, or 11, at a count's limit
+pub turn-goes : (s : State) (p : ℕ) → Valid s → p < s .n → taskAt s p .count < maxCount → (s .kind ≡ 1 → reasonNumber (turnOf s p .outcome) ≢ 7)
+    → Goes (turnOf s p .outcome)
+turn-goes s p ok h = rw (turn-step s p ok h, step-outcome s p) (go (effectOf s p) (effect-does s p))
+  where
+    go : (e : Effect) → Does (sharedOf s) (taskAt s p) e → taskAt s p .count < maxCount → (s .kind ≡ 1 → reasonNumber (outcomeOf (e .act)) ≢ 7)
+        → Goes (outcomeOf (e .act))
+    go _ (keeps c) low none = tt
+    go _ (raises l c) low none = tt
+    go _ stays low none = tt
+    go _ (refused-7 k) low none = absurd (none k refl)
+    go _ (refused-11 l) low none = absurd (omega arith)
+
+-- a refusal of a turn of a known task, in a state in range, is 7 or 11
+pub turn-refusals : (s : State) (p k : ℕ) → Valid s → p < s .n → turnOf s p .outcome ≡ Refused k → (k ≡ 7) ⊎ (k ≡ 11)
+turn-refusals s p k ok h = rw (turn-step s p ok h, step-outcome s p) (go (effectOf s p) (effect-does s p))
+  where
+    go : (e : Effect) → Does (sharedOf s) (taskAt s p) e → outcomeOf (e .act) ≡ Refused k → (k ≡ 7) ⊎ (k ≡ 11)
+    go _ (keeps c) e = let z : _≡_ {A = ℕ} 0 1 = cc in absurd (omega arith)
+    go _ (raises l c) e = let z : _≡_ {A = ℕ} 0 1 = cc in absurd (omega arith)
+    go _ stays e = let z : _≡_ {A = ℕ} 0 1 = cc in absurd (omega arith)
+    go _ (refused-7 j) e = inl (cc)
+    go _ (refused-11 l) e = inr (cc)
+
+-- 7 at a turn in range is of kind 1
+pub seven-of-kind-1 : (s : State) (p : ℕ) → Valid s → reasonNumber (turnOf s p .outcome) ≡ 7 → s .kind ≡ 1
+seven-of-kind-1 s p ok = split (decLt p (s .n))
+  where
+    go : (e : Effect) → Does (sharedOf s) (taskAt s p) e → reasonNumber (outcomeOf (e .act)) ≡ 7 → s .kind ≡ 1
+    go _ (keeps c) e = absurd (omega arith)
+    go _ (raises l c) e = absurd (omega arith)
+    go _ stays e = absurd (omega arith)
+    go _ (refused-7 k) e = k
+    go _ (refused-11 l) e = absurd (omega arith)
+
+    split : Dec (p < s .n) → reasonNumber (turnOf s p .outcome) ≡ 7 → s .kind ≡ 1
+    split (yes h) = rw (turn-step s p ok h, step-outcome s p) (go (effectOf s p) (effect-does s p))
+    split (no h) = rw (turn-unknown s p ok (omega arith)) (λ e. absurd (omega arith))

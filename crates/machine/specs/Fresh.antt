@@ -5,13 +5,14 @@ use Prim.Native.Nat.{ℕ, _-_}
 use lib.Dec.{eqb, leb}
 use lib.ListN.{length, replicate}
 use Rattle.bitset.specs.Choice.{pick}
+use Rattle.bitset.specs.Table.{table}
 use Rattle.bitset.specs.Tasks.{isCount}
 use Rattle.parents.specs.Parents.{checkOf}
-use Rattle.machine.specs.declared.Task.{Task}
+use Rattle.lines.specs.declared.Task.{Task}
+use Rattle.lines.specs.Setters.{zeroTask, withLine}
 use Rattle.machine.specs.declared.State.{State}
 use Rattle.machine.specs.declared.Setup.{Setup}
 use Rattle.machine.specs.declared.Fresh.{Fresh}
-use Rattle.machine.specs.Setters.{zeroTask, withLine}
 
 -- what a fresh state is made from: kind, N, R and the parent table
 pub record Inputs : Type 0 where
@@ -22,6 +23,10 @@ pub record Inputs : Type 0 where
 
 abbrev pub inputsOf : Setup → List ℕ → Inputs
 inputsOf setup parents = record { kind = setup .kind; n = setup .n; modulus = setup .modulus; parents = parents }
+
+-- the same with another parent table
+abbrev pub withParents : Inputs → List ℕ → Inputs
+withParents i parents = record { kind = i .kind; n = i .n; modulus = i .modulus; parents = parents }
 
 -- "0 symmetric, 1 fetch-and-increment, 2 ring, 3 tree"
 abbrev pub isKind : ℕ → Bool
@@ -46,17 +51,17 @@ freshReason i =
     3)
     2
 
--- "Each task has a line and a count, fresh 11 and 0"; "fields not named above start at 0"
-abbrev pub freshTask : Task
-freshTask = withLine zeroTask 11
+-- "Each task has a line and a count, fresh 11 and 0"; "fields not named above start at 0". The task q:
+abbrev pub freshTask : Inputs → ℕ → Task
+freshTask i q = withLine zeroTask 11
 
 -- "Sense (fresh 1)" for kind 1, and 0 for another kind, which doesn't use it
 abbrev pub freshSense : ℕ → ℕ
 freshSense kind = pick (eqb kind 1) 1 0
 
--- n of 64 tasks are fresh, and the tasks from n on are all zero
-abbrev pub freshTasks : ℕ → List Task
-freshTasks n = replicate n freshTask ++ replicate (64 - n) zeroTask
+-- n of 64 tasks, the task q as f gives it; the tasks from n on are all zero
+abbrev pub freshTasks : ℕ → (ℕ → Task) → List Task
+freshTasks n f = table n f ++ replicate (64 - n) zeroTask
 
 -- the table in the first bytes of 64, and 0 after it
 abbrev pub padded : List ℕ → List ℕ
@@ -71,7 +76,7 @@ freshState i =
       arrivals = 0;
       sense = freshSense (i .kind);
       parents = padded (i .parents);
-      tasks = freshTasks (i .n);
+      tasks = freshTasks (i .n) (freshTask i);
     }
 
 -- "A refused fresh state: all fields 0"

@@ -6,19 +6,22 @@ use mathlib.Core.Logic.{_≢_}
 use Prim.Native.Nat.{ℕ, zero, suc, _+_, _-_, _≤_, _<_}
 use native.Mathlib.Omega.{arith}
 use lib.Dec.{eqb}
-use lib.ListN.{length, getD, drop, replicate, length-replicate, getD-replicate, List·getD-append}
+use lib.ListN.{length, getD, drop, replicate, getD-replicate, List·getD-append}
 use lib.Seq.{getD-append-add, take-at, drop-at}
 use borrow.Author.Tests.{eq-eqb, ne-eqb, lt-ltb, le-leb, leb-true, eqb-true}
 use Rattle.bitset.specs.Choice.{pick}
+use Rattle.bitset.specs.Table.{table}
+use Rattle.bitset.specs.TableLaws.{length-table, table-at}
 use Rattle.bitset.specs.Tasks.{isCount}
 use Rattle.bitset.specs.SetLaws.{is-count, within-bits, bit-zero}
 use Rattle.parents.specs.Parents.{checkOf}
 use Rattle.parents.specs.ParentsLaws.{accepted}
+use Rattle.lines.specs.declared.Task.{Task}
+use Rattle.lines.specs.Setters.{zeroTask}
 use Rattle.machine.specs.declared.State.{State}
-use Rattle.machine.specs.Setters.{zeroTask}
-use Rattle.machine.specs.Fresh.{Inputs, isKind, modulusOk, tableReason, freshReason, freshTask, freshTasks, padded, freshState, zeroState, freshOf}
+use Rattle.machine.specs.Fresh.{Inputs, withParents, isKind, modulusOk, tableReason, freshReason, freshTask, freshTasks, padded, freshState, zeroState, freshOf}
 use Rattle.machine.specs.Range.{tableOf, fieldOk, listRoom, allZero, parentsOk, taskZero, Valid}
-use Rattle.machine.specs.TurnLaws.{by-test}
+use Rattle.bitset.specs.ChoiceLaws.{by-test}
 use Rattle.machine.specs.RangeLaws.{TaskRange, valid, line-14, modulus-3}
 
 -- what an accepted fresh state is made from
@@ -48,18 +51,29 @@ unfolding freshReason
 inputs-accepted i a =
     rw (le-leb (i .kind) 3 (a .kind), le-leb 1 (i .n) (a .some), le-leb (i .n) 64 (a .few), a .modulus) (a .table)
 
+-- the table is looked at only where N is 1 to 64, and by its own reason alone
+pub reason-alike : (i : Inputs) (parents : List ℕ) → (i .n ≤ 64 → tableReason (i .kind) (i .n) parents ≡ tableReason (i .kind) (i .n) (i .parents))
+    → freshReason (withParents i parents) ≡ freshReason i
+unfolding freshReason
+reason-alike i parents same = go (isCount (i .n)) refl
+  where
+    go : (b : Bool) → isCount (i .n) ≡ b
+        → pick (isKind (i .kind)) (pick b (pick (modulusOk (i .kind) (i .modulus)) (tableReason (i .kind) (i .n) parents) 4) 3) 2
+        ≡ pick (isKind (i .kind)) (pick b (pick (modulusOk (i .kind) (i .modulus)) (tableReason (i .kind) (i .n) (i .parents)) 4) 3) 2
+    go true e = rw (same (is-count (i .n) e .1))
+    go false e = refl
+
 -- ---- an accepted one is in range
 
-pub fresh-at : (n q : ℕ) → q < n → getD (freshTasks n) q zeroTask ≡ freshTask
-fresh-at n q h =
-    List·getD-append (replicate n freshTask) (replicate (64 - n) zeroTask) zeroTask q (rw (length-replicate n freshTask) h)
-    ∙ getD-replicate n q freshTask zeroTask h
+pub fresh-at : (n q : ℕ) (f : ℕ → Task) → q < n → getD (freshTasks n f) q zeroTask ≡ f q
+fresh-at n q f h =
+    List·getD-append (table n f) (replicate (64 - n) zeroTask) zeroTask q (rw (length-table n f) h) ∙ table-at n f q zeroTask h
 
-zero-at : (n q : ℕ) → n ≤ q → q < 64 → getD (freshTasks n) q zeroTask ≡ zeroTask
-zero-at n q h l =
-    let e : q ≡ length (replicate n freshTask) + (q - n) = omega (arith, length-replicate n freshTask) in
-    ap (λ (k : ℕ). getD (freshTasks n) k zeroTask) e
-    ∙ getD-append-add (replicate n freshTask) (replicate (64 - n) zeroTask) (q - n) zeroTask
+zero-at : (n q : ℕ) (f : ℕ → Task) → n ≤ q → q < 64 → getD (freshTasks n f) q zeroTask ≡ zeroTask
+zero-at n q f h l =
+    let e : q ≡ length (table n f) + (q - n) = omega (arith, length-table n f) in
+    ap (λ (k : ℕ). getD (freshTasks n f) k zeroTask) e
+    ∙ getD-append-add (table n f) (replicate (64 - n) zeroTask) (q - n) zeroTask
     ∙ getD-replicate (64 - n) (q - n) zeroTask zeroTask (omega arith)
 
 all-zeros : (n : ℕ) → allZero (replicate n 0) ≡ true
@@ -71,11 +85,11 @@ all-zeros (suc n) = all-zeros n
 field-zero : (u : Bool) (bound : ℕ) → (u ≡ true → 0 < bound) → fieldOk u bound 0 ≡ true
 field-zero u bound f = by-test (λ b. b ≡ true) u (λ e. lt-ltb 0 bound (f e)) (λ e. refl)
 
-fresh-range : (s : State) (q : ℕ) → 1 ≤ s .n → modulusOk (s .kind) (s .modulus) ≡ true → TaskRange s q freshTask
-fresh-range s q some m =
+fresh-range : (i : Inputs) (s : State) (q : ℕ) → s .kind ≤ 3 → 1 ≤ s .n → modulusOk (s .kind) (s .modulus) ≡ true → TaskRange s q (freshTask i q)
+fresh-range i s q known some m =
     record {
       line-from = omega arith;
-      line-to = omega (arith, line-14 (s .kind));
+      line-to = omega (arith, line-14 (s .kind) known);
       count = omega arith;
       tag = field-zero (eqb (s .kind) 0) (s .modulus) tagged;
       old = field-zero (eqb (s .kind) 0) (s .modulus) tagged;
@@ -135,8 +149,8 @@ fresh-valid i e =
       arrivals = field-zero (eqb (i .kind) 1) (i .n + 1) (λ _. omega arith);
       sense = by-test (λ b. b ≡ true) (eqb (i .kind) 1) (λ k. rw k) (λ k. rw k);
       parents = fresh-parents i a;
-      tasks = λ q h. subst (TaskRange (freshState i) q) (sym (fresh-at (i .n) q h)) (fresh-range (freshState i) q (a .some) (a .modulus));
-      rest = λ q m l. rw (zero-at (i .n) q m l);
+      tasks = λ q h. subst (TaskRange (freshState i) q) (sym (fresh-at (i .n) q (freshTask i) h)) (fresh-range i (freshState i) q (a .kind) (a .some) (a .modulus));
+      rest = λ q m l. rw (zero-at (i .n) q (freshTask i) m l);
     })
 
 -- an accepted call gives the fresh state, a refused one the all-zero state

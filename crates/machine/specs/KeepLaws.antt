@@ -9,29 +9,32 @@ use native.Mathlib.Decide.{ℕ-discrete}
 use native.Mathlib.Omega.{arith}
 use lib.Dec.{eqb, leb, ltb}
 use lib.ListN.{length, length-take}
-use borrow.Author.Tests.{ne-eqb, le-ltb, ltb-true, leb-false, eqb-false}
+use borrow.Author.Tests.{ne-eqb, le-ltb, ltb-true, leb-false, eqb-true, eqb-false}
 use Rattle.bitset.specs.Choice.{pick}
+use Rattle.bitset.specs.ChoiceLaws.{by-test}
 use Rattle.bitset.specs.Set.{bit, withinOf, allOf, leastOf, withoutOf}
 use Rattle.bitset.specs.SetLaws.{bit-zero, all-past, all-lt, within-self, without-within, least-within}
 use Rattle.parents.specs.Parents.{childrenOf}
 use Rattle.parents.specs.ParentsLaws.{children-bit, children-lt}
-use Rattle.machine.specs.declared.Task.{Task}
+use Rattle.lines.specs.declared.Task.{Task}
 use Rattle.machine.specs.declared.State.{State}
-use Rattle.machine.specs.declared.Effect.{Effect}
-use Rattle.machine.specs.declared.Move.the-variants.{Moved, Waited}
-use Rattle.machine.specs.declared.Outcome.{Outcome}
-use Rattle.machine.specs.declared.Outcome.the-variants.{Made, Refused}
-use Rattle.machine.specs.declared.Write.{Write}
-use Rattle.machine.specs.declared.Write.the-variants.{Nothing, Arrivals, Sense, Toggle, Flag}
-use Rattle.machine.specs.Setters.{taskAt, withTask, withTasks, withArrivals, withSense, withLine, withTag, withOld, withList, withToggle, withFlag}
-use Rattle.machine.specs.Range.{tableOf, lastLine, maxCount, fieldOk, listRoom, taskZero, Valid}
-use Rattle.machine.specs.Lines.{moves, awaits, work, raised, counts, choose, takeOff}
-use Rattle.machine.specs.Symmetric.{nextTag, symmetricLine}
-use Rattle.machine.specs.Increment.{negated, incrementLine}
-use Rattle.machine.specs.Ring.{nz, nextTask, ringLine}
-use Rattle.machine.specs.Tree.{treeLine}
-use Rattle.machine.specs.Turn.{effectOf, written, applied, stepOf, turnOf}
-use Rattle.machine.specs.TurnLaws.{by-test, by-turn, by-kind, by-symmetric, by-increment, by-ring, by-tree, step-state, put-same, put-other}
+use Rattle.lines.specs.declared.Effect.{Effect}
+use Rattle.lines.specs.declared.Act.{Act}
+use Rattle.lines.specs.declared.Act.the-variants.{Moves, Waits, Refuses}
+use Rattle.lines.specs.declared.Write.{Write}
+use Rattle.lines.specs.declared.Write.the-variants.{Nothing, Arrivals, Sense, Toggle, Flag}
+use Rattle.lines.specs.Setters.{withLine, withTag, withOld, withList, withToggle, withFlag}
+use Rattle.machine.specs.Setters.{taskAt, withTask, withTasks, withArrivals, withSense}
+use Rattle.machine.specs.Range.{tableOf, lastLine, fieldOk, listRoom, taskZero, Valid}
+use Rattle.lines.specs.Common.{maxCount, moves, awaits, work, raised, counts, choose, takeOff}
+use Rattle.lines.specs.Symmetric.{nextTag, symmetricLine}
+use Rattle.lines.specs.Increment.{negated, incrementLine}
+use Rattle.lines.specs.Ring.{nz, nextTask, ringLine}
+use Rattle.lines.specs.Tree.{treeLine}
+use Rattle.lines.specs.Words.{placeOf}
+use Rattle.lines.specs.LineLaws.{by-kind, by-symmetric, by-increment, by-ring, by-tree, Does, keeps, raises, stays, refused-7, refused-11}
+use Rattle.machine.specs.Turn.{sharedOf, effectOf, outcomeOf, written, applied, stepOf, turnOf}
+use Rattle.machine.specs.TurnLaws.{by-turn, effect-does, step-state, put-same, put-other}
 use Rattle.machine.specs.RangeLaws.{TaskRange, InRange, range, valid, present, line-14, used, modulus-3}
 
 -- ---- storing keeps the range
@@ -112,13 +115,13 @@ keep-written (Flag q x) s r ok = keep-task s q _ r (ok .0) (re-flag s q (taskAt 
 -- ---- every line keeps the range
 
 -- what a move leaves is in range; a wait and a refusal leave nothing
-abbrev Good : State → ℕ → Outcome → Task → Write → Type 0
-Good s p (Made Moved) t w = TaskRange s p t × WriteOk s w
-Good s p (Made Waited) t w = Unit {0}
-Good s p (Refused k) t w = Unit {0}
+abbrev Good : State → ℕ → Act → Task → Write → Type 0
+Good s p Moves t w = TaskRange s p t × WriteOk s w
+Good s p Waits t w = Unit {0}
+Good s p (Refuses k) t w = Unit {0}
 
 abbrev GoodEffect : State → ℕ → Effect → Type 0
-GoodEffect s p e = Good s p (e .outcome) (e .task) (e .write)
+GoodEffect s p e = Good s p (e .act) (e .task) (e .write)
 
 -- no list holds a task of N or more
 room-past : (s : State) (q j : ℕ) → InRange s → s .n ≤ j → bit (listRoom s q) j ≡ 0
@@ -144,21 +147,21 @@ module _ (s : State) (p : ℕ) (r : InRange s) (h : p < s .n) where
   to-line l a b = let r = tr in search
 
   good-work : GoodEffect s p (work (taskAt s p))
-  good-work = (to-line 12 (omega arith) (omega (arith, line-14 (s .kind))), tt)
+  good-work = (to-line 12 (omega arith) (omega (arith, line-14 (s .kind) (r .kind))), tt)
 
   good-choose : (exit : ℕ) → 11 ≤ exit → exit ≤ lastLine (s .kind) → eqb (s .kind) 0 || eqb (s .kind) 3 ≡ true
       → GoodEffect s p (choose exit (leastOf (taskAt s p .list)) (taskAt s p))
   good-choose exit a b u =
       by-test (GoodEffect s p) (eqb (taskAt s p .list) 0) (λ e. (to-line exit a b, tt))
       (λ e.
-      let l14 = line-14 (s .kind) in
+      let l14 = line-14 (s .kind) (r .kind) in
       let l = used (eqb (s .kind) 0 || eqb (s .kind) 3) (s .n) (leastOf (taskAt s p .list)) u (least-known (eqb-false (taskAt s p .list) 0 e)) in
       let o = tr in
       (search arith, tt))
 
   good-take-off : GoodEffect s p (takeOff (taskAt s p))
   good-take-off =
-      let l14 = line-14 (s .kind) in
+      let l14 = line-14 (s .kind) (r .kind) in
       let w = without-within 64 (taskAt s p .list) (listRoom s p) (taskAt s p .looked) (tr .list) in
       let o = tr in
       (search arith, tt)
@@ -172,14 +175,14 @@ module _ (s : State) (p : ℕ) (r : InRange s) (h : p < s .n) where
 
   good-symmetric : s .kind ≡ 0 → (tag : ℕ) → GoodEffect s p (symmetricLine (taskAt s p .line) (s .n) (s .modulus) tag (taskAt s p))
   good-symmetric k tag =
-      by-symmetric (GoodEffect s p) (taskAt s p .line) (taskAt s p) tt (λ _. good-work) (s .n) (s .modulus) tag
+      by-symmetric (GoodEffect s p) (taskAt s p .line) (taskAt s p) (λ _. tt) (λ _. good-work) (s .n) (s .modulus) tag
       (λ _. good-counts _ line-12)
-      (λ _. good-choose 11 (omega arith) (omega (arith, line-14 (s .kind))) (rw k))
+      (λ _. good-choose 11 (omega arith) (omega (arith, line-14 (s .kind) (r .kind))) (rw k))
       (λ _. good-awaits (not (eqb tag (taskAt s p .old))) (takeOff (taskAt s p)) good-take-off)
     where
       line-12 : taskAt s p .count < maxCount → GoodEffect s p (moves (withLine (withList (raised (withTag (withOld (taskAt s p) (taskAt s p .tag)) (nextTag (s .modulus) (taskAt s p .tag)))) (allOf (s .n))) 13) Nothing)
       line-12 low =
-          let l14 = line-14 (s .kind) in
+          let l14 = line-14 (s .kind) (r .kind) in
           let three = modulus-3 (s .modulus) (rw k at (r .modulus)) in
           let next : nextTag (s .modulus) (taskAt s p .tag) < s .modulus
           = rw (ne-eqb (s .modulus) 0 (omega arith)) (mod-lt (taskAt s p .tag + 1) (omega arith)) in
@@ -190,7 +193,7 @@ module _ (s : State) (p : ℕ) (r : InRange s) (h : p < s .n) where
 
   good-increment : s .kind ≡ 1 → GoodEffect s p (incrementLine (taskAt s p .line) (s .n) (s .arrivals) (s .sense) (taskAt s p))
   good-increment k =
-      by-increment (GoodEffect s p) (taskAt s p .line) (taskAt s p) tt (λ _. good-work) (s .n) (s .arrivals) (s .sense)
+      by-increment (GoodEffect s p) (taskAt s p .line) (taskAt s p) (λ _. tt) (λ _. good-work) (s .n) (s .arrivals) (s .sense)
       (λ _. let a = used (eqb (s .kind) 1) 2 (negated (s .sense)) (rw k) aimed in let o = tr in let l = l16 in (search arith, tt))
       (λ _. by-test (GoodEffect s p) (leb (s .n) (s .arrivals)) (λ _. tt) (λ few. good-counts (moves (withLine (raised (taskAt s p)) (pick (eqb (s .arrivals + 1) (s .n)) 14 16)) (Arrivals (s .arrivals + 1))) (λ low. (line-13 low, used (eqb (s .kind) 1) (s .n + 1) (s .arrivals + 1) (rw k) (omega (arith, leb-false (s .n) (s .arrivals) few))))))
       (λ _. (to-line 15 (omega arith) (omega (arith, l16)), used (eqb (s .kind) 1) (s .n + 1) 0 (rw k) (omega arith)))
@@ -211,7 +214,7 @@ module _ (s : State) (p : ℕ) (r : InRange s) (h : p < s .n) where
 
   good-ring : s .kind ≡ 2 → GoodEffect s p (ringLine (taskAt s p .line) (s .n) p (taskAt s p))
   good-ring k =
-      by-ring (GoodEffect s p) (taskAt s p .line) (taskAt s p) tt (λ _. good-work) (s .n) p
+      by-ring (GoodEffect s p) (taskAt s p .line) (taskAt s p) (λ _. tt) (λ _. good-work) (s .n) p
       (λ _. good-awaits (eqb (taskAt s p .toggle) (nz p)) (moves (withLine (taskAt s p) 13) Nothing) (to-line 13 (omega arith) (omega (arith, l15)), tt))
       (λ _. good-counts (moves (withLine (raised (taskAt s p)) 14) (Toggle (nextTask (s .n) p) 1)) (λ low. (let o = tr in let l = l15 in search arith, (next, used (eqb (s .kind) 2) 2 1 (rw k) (omega arith)))))
       (λ _. good-awaits (not (eqb (taskAt s p .toggle) (nz p))) (moves (withLine (taskAt s p) 15) Nothing) (to-line 15 (omega arith) (omega (arith, l15)), tt))
@@ -225,7 +228,7 @@ module _ (s : State) (p : ℕ) (r : InRange s) (h : p < s .n) where
 
   good-tree : s .kind ≡ 3 → (flag : ℕ) → GoodEffect s p (treeLine (taskAt s p .line) (tableOf s) p flag (taskAt s p))
   good-tree k flag =
-      by-tree (GoodEffect s p) (taskAt s p .line) (taskAt s p) tt (λ _. good-work) (tableOf s) p flag
+      by-tree (GoodEffect s p) (taskAt s p .line) (taskAt s p) (λ _. tt) (λ _. good-work) (tableOf s) p flag
       (λ _. (listed 13 (omega arith) (omega (arith, l18)), tt))
       (λ _. good-choose 15 (omega arith) (omega (arith, l18)) (rw k))
       (λ _. good-awaits (eqb flag 1) (takeOff (taskAt s p)) good-take-off)
@@ -255,13 +258,16 @@ module _ (s : State) (p : ℕ) (r : InRange s) (h : p < s .n) where
           search arith
 
   good-effect : GoodEffect s p (effectOf s p)
+  unfolding effectOf
   good-effect =
-      by-kind (GoodEffect s p) s p (r .kind) (λ k. good-symmetric k _) good-increment good-ring (λ k. good-tree k _)
+      by-kind (GoodEffect s p) (sharedOf s) (tableOf s) p (taskAt s p) (taskAt s (taskAt s p .looked))
+      (λ k. good-symmetric k _) good-increment good-ring (λ k. good-tree k _) tt
 
 -- ---- the law
 
-keep-applied : (o : Outcome) (s : State) (p : ℕ) (t : Task) (w : Write) → InRange s → p < s .n → Good s p o t w → InRange (applied o s p t w)
-keep-applied (Made Moved) s p t w r h g = keep-written w (withTask s p t) (keep-task s p t r h (g .0)) (write-ok w (g .1))
+-- a state with a move stored is in range
+keep-moved : (s : State) (p : ℕ) (t : Task) (w : Write) → InRange s → p < s .n → TaskRange s p t → WriteOk s w → InRange (written w (withTask s p t))
+keep-moved s p t w r h tr ok = keep-written w (withTask s p t) (keep-task s p t r h tr) (write-ok w ok)
   where
     write-ok : (w : Write) → WriteOk s w → WriteOk (withTask s p t) w
     write-ok Nothing ok = ok
@@ -269,10 +275,38 @@ keep-applied (Made Moved) s p t w r h g = keep-written w (withTask s p t) (keep-
     write-ok (Sense x) ok = ok
     write-ok (Toggle q x) ok = ok
     write-ok (Flag q x) ok = ok
-keep-applied (Made Waited) s p t w r h g = r
-keep-applied (Refused k) s p t w r h g = r
+
+keep-applied : (a : Act) (s : State) (p : ℕ) (t : Task) (w : Write) → InRange s → p < s .n → Good s p a t w → InRange (applied (outcomeOf a) s p t w)
+keep-applied Moves s p t w r h g = keep-moved s p t w r h (g .0) (g .1)
+keep-applied Waits s p t w r h g = r
+keep-applied (Refuses k) s p t w r h g = r
 
 pub turn-valid : (s : State) (p : ℕ) → Valid s → Valid (turnOf s p .state)
 turn-valid s p ok =
     by-turn (λ r. Valid (r .state)) s p (λ k. ok)
-    (λ ok h. valid (stepOf s p .state) (subst InRange (sym (step-state s p)) (keep-applied (effectOf s p .outcome) s p (effectOf s p .task) (effectOf s p .write) (range s ok) h (good-effect s p (range s ok) h))))
+    (λ ok h. valid (stepOf s p .state) (subst InRange (sym (step-state s p)) (keep-applied (effectOf s p .act) s p (effectOf s p .task) (effectOf s p .write) (range s ok) h (good-effect s p (range s ok) h))))
+
+-- ---- the places that a turn reads and writes are tasks
+
+pub looked-known : (s : State) (p : ℕ) → Valid s → p < s .n → taskAt s p .looked < s .n
+looked-known s p ok h =
+    by-test (λ b. b ≡ true → taskAt s p .looked < s .n) (eqb (s .kind) 0 || eqb (s .kind) 3)
+    (λ _ e. ltb-true (taskAt s p .looked) (s .n) e) (λ _ e. omega (arith, eqb-true (taskAt s p .looked) 0 e))
+    (range s ok .tasks p h .looked)
+
+pub place-known : (s : State) (p : ℕ) → Valid s → p < s .n → placeOf (effectOf s p .write) p < s .n
+place-known s p ok h = go (effectOf s p) (effect-does s p) (good-effect s p (range s ok) h)
+  where
+    at : (w : Write) → WriteOk s w → placeOf w p < s .n
+    at Nothing ok = h
+    at (Arrivals x) ok = h
+    at (Sense x) ok = h
+    at (Toggle q x) ok = ok .0
+    at (Flag q x) ok = ok .0
+
+    go : (e : Effect) → Does (sharedOf s) (taskAt s p) e → GoodEffect s p e → placeOf (e .write) p < s .n
+    go _ (keeps {u} {w} c) g = at w (g .1)
+    go _ (raises {u} {w} l c) g = at w (g .1)
+    go _ stays g = h
+    go _ (refused-7 k) g = h
+    go _ (refused-11 l) g = h

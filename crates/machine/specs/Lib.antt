@@ -2,11 +2,6 @@
 pub mod Setters
 pub mod Fresh
 pub mod Range
-pub mod Lines
-pub mod Symmetric
-pub mod Increment
-pub mod Ring
-pub mod Tree
 pub mod Turn
 pub mod Ready
 pub mod Least
@@ -16,3 +11,4 @@ pub mod KeepLaws
 pub mod LeastLaws
 pub mod FreshLaws
 pub mod CountLaws
+pub mod ReadyLaws

@@ -9,7 +9,8 @@ use Rattle.bitset.specs.Choice.{pick}
 use Rattle.bitset.specs.Tasks.{isCount}
 use Rattle.bitset.specs.Set.{allOf, withinOf}
 use Rattle.parents.specs.Parents.{checkOf, childrenOf}
-use Rattle.machine.specs.declared.Task.{Task}
+use Rattle.lines.specs.declared.Task.{Task}
+use Rattle.lines.specs.Common.{maxCount}
 use Rattle.machine.specs.declared.State.{State}
 use Rattle.machine.specs.Setters.{taskAt}
 use Rattle.machine.specs.Fresh.{isKind, modulusOk}
@@ -18,13 +19,9 @@ use Rattle.machine.specs.Fresh.{isKind, modulusOk}
 abbrev pub tableOf : State → List ℕ
 tableOf s = take (s .n) (s .parents)
 
--- "Lines: from 11 to 14 for kind 0, 16 for kind 1, 15 for kind 2, 18 for kind 3."
+-- "Lines: from 11 to 14 for kind 0, 16 for kind 1, 15 for kind 2, 18 for kind 3." Another kind has none.
 abbrev pub lastLine : ℕ → ℕ
-lastLine kind = pick (eqb kind 0) 14 (pick (eqb kind 1) 16 (pick (eqb kind 2) 15 18))
-
--- "Count: 0 to 1,000,000."
-abbrev pub maxCount : ℕ
-maxCount = 1000000
+lastLine kind = pick (eqb kind 0) 14 (pick (eqb kind 1) 16 (pick (eqb kind 2) 15 (pick (eqb kind 3) 18 0)))
 
 -- a field that the kind uses is below its bound; "every field the kind doesn't use .. is 0"
 abbrev pub fieldOk : Bool → ℕ → ℕ → Bool

@@ -1,22 +1,24 @@
 -- The range of a state, clause by clause: what a valid state has, and that fresh states and turns keep it.
 use mathlib.Core.Path.{_≡_, refl, sym, ap, subst}
 use mathlib.Core.Bool.{Bool, true, false, _||_, and-eq-true-iff}
-use mathlib.Core.Logic.{_⊎_, inl, inr}
+use mathlib.Core.Logic.{_⊎_, inl, inr, _≢_}
 use Prim.Native.Nat.{ℕ, zero, suc, _+_, _≤_, _<_}
 use native.Mathlib.Nat.{eq-or-lt-of-le, le-of-suc-le-suc, lt-of-not-le}
 use native.Mathlib.Omega.{arith}
 use lib.Dec.{eqb, leb, ltb}
 use lib.ListN.{length, List·getD-eq-default}
-use borrow.Author.Tests.{lt-ltb, le-ltb, le-leb, ltb-true, ltb-false, leb-true}
+use borrow.Author.Tests.{lt-ltb, le-ltb, le-leb, ltb-true, ltb-false, leb-true, eqb-false}
 use Rattle.bitset.specs.Choice.{pick}
 use Rattle.bitset.specs.Set.{withinOf}
 use Rattle.bitset.specs.SetLaws.{is-count}
-use Rattle.machine.specs.declared.Task.{Task}
+use Rattle.lines.specs.declared.Task.{Task}
 use Rattle.machine.specs.declared.State.{State}
-use Rattle.machine.specs.Setters.{zeroTask, taskAt}
+use Rattle.lines.specs.Setters.{zeroTask}
+use Rattle.lines.specs.Common.{maxCount}
+use Rattle.machine.specs.Setters.{taskAt}
 use Rattle.machine.specs.Fresh.{modulusOk}
-use Rattle.machine.specs.TurnLaws.{by-test}
-use Rattle.machine.specs.Range.{lastLine, maxCount, fieldOk, listRoom, taskOk, taskZero, tasksOk, parentsOk, stateOk, checkState, Valid}
+use Rattle.bitset.specs.ChoiceLaws.{by-test}
+use Rattle.machine.specs.Range.{lastLine, fieldOk, listRoom, taskOk, taskZero, tasksOk, parentsOk, stateOk, checkState, Valid}
 
 -- ---- clause by clause
 
@@ -144,16 +146,31 @@ valid s r =
       tasks-all s 64 (λ q h. by-test (λ b. b ≡ true) (ltb q (s .n)) (λ l. range-task s q (taskAt s q) (r .tasks q (ltb-true q (s .n) l))) (λ l. r .rest q (ltb-false q (s .n) l) h)),
     )
 
+-- what refuses a state is no 9, so that a run's answer to it has no place
+pub check-not-9 : (s : State) → checkState s ≢ 9
+unfolding checkState
+check-not-9 s = by-test (λ x. x ≢ 9) (stateOk s) (λ _. omega arith) (λ _. omega arith)
+
 -- a task of 0 to N − 1 stands in the list of tasks: its line is not 0
 pub present : (s : State) (q : ℕ) → 11 ≤ taskAt s q .line → q < length (s .tasks)
 present s q h = lt-of-not-le (λ l. absurd (omega (arith, ap (λ (t : Task). t .line) (List·getD-eq-default (s .tasks) zeroTask {n = q} l))))
 
 -- every barrier has the lines 11 to 14
-pub line-14 : (kind : ℕ) → 14 ≤ lastLine kind
-line-14 kind =
+pub line-14 : (kind : ℕ) → kind ≤ 3 → 14 ≤ lastLine kind
+line-14 kind known =
     by-test (λ x. 14 ≤ x) (eqb kind 0) (λ _. omega arith)
-    (λ _. by-test (λ x. 14 ≤ x) (eqb kind 1) (λ _. omega arith)
-    (λ _. by-test (λ x. 14 ≤ x) (eqb kind 2) (λ _. omega arith) (λ _. omega arith)))
+    (λ n0. by-test (λ x. 14 ≤ x) (eqb kind 1) (λ _. omega arith)
+    (λ n1. by-test (λ x. 14 ≤ x) (eqb kind 2) (λ _. omega arith)
+    (λ n2. by-test (λ x. 14 ≤ x) (eqb kind 3) (λ _. omega arith)
+    (λ n3. absurd (omega (arith, eqb-false kind 0 n0, eqb-false kind 1 n1, eqb-false kind 2 n2, eqb-false kind 3 n3))))))
+
+-- and none has a line above 18
+pub line-18 : (kind : ℕ) → lastLine kind ≤ 18
+line-18 kind =
+    by-test (λ x. x ≤ 18) (eqb kind 0) (λ _. omega arith)
+    (λ _. by-test (λ x. x ≤ 18) (eqb kind 1) (λ _. omega arith)
+    (λ _. by-test (λ x. x ≤ 18) (eqb kind 2) (λ _. omega arith)
+    (λ _. by-test (λ x. x ≤ 18) (eqb kind 3) (λ _. omega arith) (λ _. omega arith))))
 
 -- a field that the kind uses is in range below its bound, and has it
 pub used : (u : Bool) (bound x : ℕ) → u ≡ true → x < bound → fieldOk u bound x ≡ true

@@ -17,3 +17,14 @@ readyFrom s (suc k) p = let r = readyFrom s k (p + 1) in pick (isMoved (turnOf s
 -- "ready 7"; the state is handed back as it was
 unfoldable pub readyOf : State → Readied
 readyOf s = record { state = s; ready = pick (eqb (checkState s) 0) (readyFrom s (s .n) 0) (Refused (checkState s)) }
+
+-- the paper's numbers of an answer: the reason, 0 if accepted; the task, 64 for "none", which is no task, and 0 for a refusal
+abbrev pub readyReason : Ready → ℕ
+readyReason (Task p) = 0
+readyReason Nobody = 0
+readyReason (Refused k) = k
+
+abbrev pub readyNumber : Ready → ℕ
+readyNumber (Task p) = p
+readyNumber Nobody = 64
+readyNumber (Refused k) = 0

@@ -1,35 +1,42 @@
--- A turn (01, "The state and a turn"): which rule applies, what it does to the state, and the refusals.
+-- A turn (01, "The state and a turn"): what its line does to the state, what it answers, and the refusals.
 use mathlib.Core.Bool.{Bool, true, false}
 use Prim.Native.Nat.{ℕ}
 use lib.Dec.{eqb, ltb}
 use Rattle.bitset.specs.Choice.{pick}
-use Rattle.machine.specs.declared.Task.{Task}
+use Rattle.lines.specs.declared.Task.{Task}
+use Rattle.lines.specs.declared.Shared.{Shared}
+use Rattle.lines.specs.declared.Effect.{Effect}
+use Rattle.lines.specs.declared.Act.{Act}
+use Rattle.lines.specs.declared.Act.the-variants.{Moves, Waits, Refuses}
+use Rattle.lines.specs.declared.Write.{Write}
+use Rattle.lines.specs.declared.Write.the-variants.{Nothing, Arrivals, Sense, Toggle, Flag}
+use Rattle.lines.specs.Setters.{withToggle, withFlag}
+use Rattle.lines.specs.Rule.{effectFrom}
 use Rattle.machine.specs.declared.State.{State}
-use Rattle.machine.specs.declared.Effect.{Effect}
 use Rattle.machine.specs.declared.Move.{Move}
 use Rattle.machine.specs.declared.Move.the-variants.{Moved, Waited}
 use Rattle.machine.specs.declared.Outcome.{Outcome}
 use Rattle.machine.specs.declared.Outcome.the-variants.{Made, Refused}
-use Rattle.machine.specs.declared.Write.{Write}
-use Rattle.machine.specs.declared.Write.the-variants.{Nothing, Arrivals, Sense, Toggle, Flag}
 use Rattle.machine.specs.declared.Turned.{Turned}
-use Rattle.machine.specs.Setters.{taskAt, withTask, withArrivals, withSense, withToggle, withFlag}
+use Rattle.machine.specs.Setters.{taskAt, withTask, withArrivals, withSense}
 use Rattle.machine.specs.Range.{tableOf, checkState}
-use Rattle.machine.specs.Symmetric.{symmetricLine}
-use Rattle.machine.specs.Increment.{incrementLine}
-use Rattle.machine.specs.Ring.{ringLine}
-use Rattle.machine.specs.Tree.{treeLine}
+
+-- what a line may read besides tasks and parents
+abbrev pub sharedOf : State → Shared
+sharedOf s = record { kind = s .kind; n = s .n; modulus = s .modulus; arrivals = s .arrivals; sense = s .sense }
 
 -- "Which rule applies is decided by the kind and the line number." What the line of the task t, which is p, does:
 abbrev pub effectBy : State → ℕ → Task → Effect
-effectBy s p t =
-    pick (eqb (s .kind) 0) (symmetricLine (t .line) (s .n) (s .modulus) (taskAt s (t .looked) .tag) t)
-    (pick (eqb (s .kind) 1) (incrementLine (t .line) (s .n) (s .arrivals) (s .sense) t)
-    (pick (eqb (s .kind) 2) (ringLine (t .line) (s .n) p t)
-    (treeLine (t .line) (tableOf s) p (taskAt s (t .looked) .flag) t)))
+effectBy s p t = effectFrom (sharedOf s) (tableOf s) p t (taskAt s (t .looked))
 
 unfoldable pub effectOf : State → ℕ → Effect
 effectOf s p = effectBy s p (taskAt s p)
+
+-- what a turn answers: "moved (its line was carried out), waited (its line is an await whose condition is false ..) or a refusal"
+abbrev pub outcomeOf : Act → Outcome
+outcomeOf Moves = Made Moved
+outcomeOf Waits = Made Waited
+outcomeOf (Refuses k) = Refused k
 
 -- the state with a shared word written
 abbrev pub written : Write → State → State
@@ -50,7 +57,7 @@ unfoldable pub stepOf : State → ℕ → Turned
 unfolding effectOf
 stepOf s p =
     let e = effectOf s p in
-    record { state = applied (e .outcome) s p (e .task) (e .write); outcome = e .outcome }
+    record { state = applied (outcomeOf (e .act)) s p (e .task) (e .write); outcome = outcomeOf (e .act) }
 
 -- a refused call "returns its number and the state it got"
 abbrev pub refusedTurn : State → ℕ → Turned

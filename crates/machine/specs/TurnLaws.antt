@@ -1,40 +1,41 @@
--- Laws of a turn over its definition: by cases, what it leaves as it was, and what it never changes.
+-- Laws of a turn over its definition: by cases, what it leaves as it was, what it never changes, and what it stores.
 use mathlib.Core.Path.{_≡_, refl, sym, ap, _∙_}
-use mathlib.Core.Bool.{Bool, true, false, true≢false}
 use mathlib.Core.List.{List}
 use mathlib.Core.Logic.{_≢_}
 use Prim.Native.Nat.{ℕ, _≤_, _<_}
 use native.Mathlib.Decide.{ℕ-discrete, decLt}
 use native.Mathlib.Omega.{arith}
 use lib.Dec.{eqb, ltb}
-use lib.ListN.{length, getD}
-use lib.Seq.{getD-set-same, getD-set-other, set-out}
-use borrow.Author.Tests.{eq-eqb, lt-ltb, le-ltb, ltb-true, eqb-true, eqb-false}
-use Rattle.bitset.specs.Choice.{pick}
-use Rattle.machine.specs.declared.Task.{Task}
+use lib.ListN.{length, getD, set}
+use lib.Seq.{getD-set-same, getD-set-other, set-out, set-getD}
+use borrow.Author.Tests.{eq-eqb, lt-ltb, le-ltb, ltb-true, eqb-true}
+use Rattle.bitset.specs.ChoiceLaws.{by-test}
+use Rattle.lines.specs.declared.Task.{Task}
+use Rattle.lines.specs.declared.Effect.{Effect}
+use Rattle.lines.specs.declared.Act.{Act}
+use Rattle.lines.specs.declared.Act.the-variants.{Moves, Waits, Refuses}
+use Rattle.lines.specs.declared.Write.{Write}
+use Rattle.lines.specs.declared.Write.the-variants.{Nothing, Arrivals, Sense, Toggle, Flag}
+use Rattle.lines.specs.Setters.{zeroTask, withToggle, withFlag}
+use Rattle.lines.specs.Common.{moves, waits}
+use Rattle.lines.specs.Symmetric.{symmetricLine}
+use Rattle.lines.specs.Increment.{incrementLine}
+use Rattle.lines.specs.Ring.{ringLine}
+use Rattle.lines.specs.Tree.{treeLine}
+use Rattle.lines.specs.Rule.{effectFrom}
+use Rattle.lines.specs.Words.{arrivalsAfter, senseAfter, placeOf, taskAfter}
+use Rattle.lines.specs.LineLaws.{Does, keeps, raises, stays, refused-7, refused-11, does}
 use Rattle.machine.specs.declared.State.{State}
-use Rattle.machine.specs.declared.Effect.{Effect}
+use Rattle.machine.specs.declared.Move.{Move}
 use Rattle.machine.specs.declared.Move.the-variants.{Moved, Waited}
 use Rattle.machine.specs.declared.Outcome.{Outcome}
 use Rattle.machine.specs.declared.Outcome.the-variants.{Made, Refused}
-use Rattle.machine.specs.declared.Write.{Write}
-use Rattle.machine.specs.declared.Write.the-variants.{Nothing, Arrivals, Sense, Toggle, Flag}
 use Rattle.machine.specs.declared.Turned.{Turned}
-use Rattle.machine.specs.Setters.{zeroTask, taskAt, withTask, withToggle, withFlag}
+use Rattle.machine.specs.Setters.{taskAt, withTask, withTasks, withArrivals, withSense}
 use Rattle.machine.specs.Range.{tableOf, checkState, Valid}
-use Rattle.machine.specs.Lines.{work, waits}
-use Rattle.machine.specs.Symmetric.{symmetric12, symmetric13, symmetric14, symmetricLine}
-use Rattle.machine.specs.Increment.{increment12, increment13, increment14, increment15, increment16, incrementLine}
-use Rattle.machine.specs.Ring.{ring12, ring13, ring14, ring15, ringLine}
-use Rattle.machine.specs.Tree.{treeList, tree13, tree14, tree15, tree16, tree18, treeLine}
-use Rattle.machine.specs.Turn.{effectOf, written, applied, stepOf, refusedTurn, turnOf, isMoved}
+use Rattle.machine.specs.Turn.{sharedOf, effectOf, outcomeOf, written, applied, stepOf, refusedTurn, turnOf}
 
 -- ---- by cases
-
--- what holds of both choices, each under its test, holds of the choice
-pub by-test {ℓ κ} : {A : Type ℓ} (P : A → Type κ) (b : Bool) {x y : A} → (b ≡ true → P x) → (b ≡ false → P y) → P (pick b x y)
-by-test P true f g = f refl
-by-test P false f g = g refl
 
 -- what holds of a refused turn and of a step holds of a turn
 pub by-turn : (P : Turned → Type 0) (s : State) (p : ℕ) → ((k : ℕ) → P (refusedTurn s k)) → (Valid s → p < s .n → P (stepOf s p)) → P (turnOf s p)
@@ -54,87 +55,155 @@ pub turn-unknown : (s : State) (p : ℕ) → Valid s → s .n ≤ p → turnOf s
 unfolding turnOf
 turn-unknown s p ok h = rw (eq-eqb (checkState s) 0 ok, le-ltb p (s .n) h)
 
--- what holds of each barrier's effect, under its kind, holds of the effect
-pub by-kind : (P : Effect → Type 0) (s : State) (p : ℕ) → s .kind ≤ 3
-    → (s .kind ≡ 0 → P (symmetricLine (taskAt s p .line) (s .n) (s .modulus) (taskAt s (taskAt s p .looked) .tag) (taskAt s p)))
-    → (s .kind ≡ 1 → P (incrementLine (taskAt s p .line) (s .n) (s .arrivals) (s .sense) (taskAt s p)))
-    → (s .kind ≡ 2 → P (ringLine (taskAt s p .line) (s .n) p (taskAt s p)))
-    → (s .kind ≡ 3 → P (treeLine (taskAt s p .line) (tableOf s) p (taskAt s (taskAt s p .looked) .flag) (taskAt s p)))
-    → P (effectOf s p)
-unfolding effectOf
-by-kind P s p known symmetric increment ring tree =
-    by-test P (eqb (s .kind) 0) (λ e. symmetric (eqb-true (s .kind) 0 e))
-    (λ n0. by-test P (eqb (s .kind) 1) (λ e. increment (eqb-true (s .kind) 1 e))
-    (λ n1. by-test P (eqb (s .kind) 2) (λ e. ring (eqb-true (s .kind) 2 e))
-    (λ n2. tree (last (eqb-false (s .kind) 0 n0) (eqb-false (s .kind) 1 n1) (eqb-false (s .kind) 2 n2)))))
-  where
-    last : s .kind ≢ 0 → s .kind ≢ 1 → s .kind ≢ 2 → s .kind ≡ 3
-    last n0 n1 n2 = omega arith
+-- the effect, as the rule gives it, and of each kind
+module _ (s : State) (p : ℕ) where
+  -- the task, and the one that it looks at
+  abbrev own : Task
+  own = taskAt s p
 
--- what holds of each line of a barrier, and of a wait, holds of the barrier's effect
-module _ (P : Effect → Type 0) (line : ℕ) (t : Task) (rest : P (waits t)) (work11 : line ≡ 11 → P (work t)) where
-  -- one more line
-  at-line : (l : ℕ) {e f : Effect} → (line ≡ l → P e) → P f → P (pick (eqb line l) e f)
-  at-line l h g = by-test P (eqb line l) (λ e. h (eqb-true line l e)) (λ _. g)
+  abbrev seen : Task
+  seen = taskAt s (own .looked)
 
-  pub by-symmetric : (n r tag : ℕ) → (line ≡ 12 → P (symmetric12 n r t)) → (line ≡ 13 → P (symmetric13 t)) → (line ≡ 14 → P (symmetric14 tag t))
-      → P (symmetricLine line n r tag t)
-  unfolding symmetricLine
-  by-symmetric n r tag l12 l13 l14 = at-line 11 work11 (at-line 12 l12 (at-line 13 l13 (at-line 14 l14 rest)))
+  pub effect-rule : effectOf s p ≡ effectFrom (sharedOf s) (tableOf s) p own seen
+  unfolding effectOf
+  effect-rule = refl
 
-  pub by-increment : (n arrivals sense : ℕ) → (line ≡ 12 → P (increment12 sense t)) → (line ≡ 13 → P (increment13 n arrivals t))
-      → (line ≡ 14 → P (increment14 t)) → (line ≡ 15 → P (increment15 t)) → (line ≡ 16 → P (increment16 sense t))
-      → P (incrementLine line n arrivals sense t)
-  unfolding incrementLine
-  by-increment n arrivals sense l12 l13 l14 l15 l16 =
-      at-line 11 work11 (at-line 12 l12 (at-line 13 l13 (at-line 14 l14 (at-line 15 l15 (at-line 16 l16 rest)))))
+  pub effect-0 : s .kind ≡ 0 → effectOf s p ≡ symmetricLine (own .line) (s .n) (s .modulus) (seen .tag) own
+  unfolding effectOf
+  effect-0 k = rw k
 
-  pub by-ring : (n p : ℕ) → (line ≡ 12 → P (ring12 p t)) → (line ≡ 13 → P (ring13 n p t)) → (line ≡ 14 → P (ring14 p t)) → (line ≡ 15 → P (ring15 n p t))
-      → P (ringLine line n p t)
-  unfolding ringLine
-  by-ring n p l12 l13 l14 l15 = at-line 11 work11 (at-line 12 l12 (at-line 13 l13 (at-line 14 l14 (at-line 15 l15 rest))))
+  pub effect-1 : s .kind ≡ 1 → effectOf s p ≡ incrementLine (own .line) (s .n) (s .arrivals) (s .sense) own
+  unfolding effectOf
+  effect-1 k = rw k
 
-  pub by-tree : (table : List ℕ) (p flag : ℕ) → (line ≡ 12 → P (treeList table p 13 t)) → (line ≡ 13 → P (tree13 t)) → (line ≡ 14 → P (tree14 flag t))
-      → (line ≡ 15 → P (tree15 p t)) → (line ≡ 16 → P (tree16 p t)) → (line ≡ 17 → P (treeList table p 18 t)) → (line ≡ 18 → P (tree18 t))
-      → P (treeLine line table p flag t)
-  unfolding treeLine
-  by-tree table p flag l12 l13 l14 l15 l16 l17 l18 =
-      at-line 11 work11
-      (at-line 12 l12 (at-line 13 l13 (at-line 14 l14 (at-line 15 l15 (at-line 16 l16 (at-line 17 l17 (at-line 18 l18 rest)))))))
+  pub effect-2 : s .kind ≡ 2 → effectOf s p ≡ ringLine (own .line) (s .n) p own
+  unfolding effectOf
+  effect-2 k = rw k
 
--- ---- what a turn leaves as it was
+  pub effect-3 : s .kind ≡ 3 → effectOf s p ≡ treeLine (own .line) (tableOf s) p (seen .flag) own
+  unfolding effectOf
+  effect-3 k = rw k
+
+  -- what the line does, whatever the kind
+  pub effect-does : Does (sharedOf s) own (effectOf s p)
+  unfolding effectOf
+  effect-does = does (sharedOf s) (tableOf s) p own seen
+
+-- ---- the answer
 
 -- a step is what its effect makes of the state
 pub step-state : (s : State) (p : ℕ)
-    → stepOf s p .state ≡ applied (effectOf s p .outcome) s p (effectOf s p .task) (effectOf s p .write)
+    → stepOf s p .state ≡ applied (outcomeOf (effectOf s p .act)) s p (effectOf s p .task) (effectOf s p .write)
 unfolding stepOf
 step-state s p = refl
 
-pub step-outcome : (s : State) (p : ℕ) → stepOf s p .outcome ≡ effectOf s p .outcome
+pub step-outcome : (s : State) (p : ℕ) → stepOf s p .outcome ≡ outcomeOf (effectOf s p .act)
 unfolding stepOf
 step-outcome s p = refl
 
--- "A turn that waits changes nothing", and a refused call returns the state it got
-still : (o : Outcome) (s : State) (p : ℕ) (t : Task) (w : Write) → isMoved o ≡ false → applied o s p t w ≡ s
-still (Made Moved) s p t w e = absurd (true≢false e)
-still (Made Waited) s p t w e = refl
-still (Refused k) s p t w e = refl
+-- a line's own outcome, from what the turn answers
+acts-move : (a : Act) → outcomeOf a ≡ Made Moved → a ≡ Moves
+acts-move Moves e = refl
+acts-move Waits e = cc
+acts-move (Refuses k) e = cc
 
-pub turn-still : (s : State) (p : ℕ) → isMoved (turnOf s p .outcome) ≡ false → turnOf s p .state ≡ s
-turn-still s p =
-    by-turn (λ r. isMoved (r .outcome) ≡ false → r .state ≡ s) s p (λ k e. refl)
-    (λ ok h. unfold stepOf in (λ e. still (effectOf s p .outcome) s p (effectOf s p .task) (effectOf s p .write) e))
+-- a turn is answered moved where its line moves
+pub turn-moves : (s : State) (p : ℕ) → Valid s → p < s .n → effectOf s p .act ≡ Moves → turnOf s p .outcome ≡ Made Moved
+turn-moves s p ok h e = rw (turn-step s p ok h, step-outcome s p, e)
+
+pub moved-acts : (s : State) (p : ℕ) → turnOf s p .outcome ≡ Made Moved → (p < s .n) × (effectOf s p .act ≡ Moves)
+moved-acts s p =
+    by-turn (λ r. r .outcome ≡ Made Moved → (p < s .n) × (effectOf s p .act ≡ Moves)) s p (λ k e. cc-absurd k e)
+    (λ ok h e. (h, acts-move (effectOf s p .act) (sym (step-outcome s p) ∙ e)))
+  where
+    cc-absurd : (k : ℕ) → Refused k ≡ Made Moved → (p < s .n) × (effectOf s p .act ≡ Moves)
+    cc-absurd k e = let z : _≡_ {A = ℕ} 0 1 = cc in absurd (omega arith)
+
+-- ---- what a turn leaves as it was
+
+-- a refused call "returns .. the state it got"
+pub refused-still : (s : State) (p k : ℕ) → turnOf s p .outcome ≡ Refused k → turnOf s p .state ≡ s
+refused-still s p k =
+    by-turn (λ r. r .outcome ≡ Refused k → r .state ≡ s) s p (λ j e. refl)
+    (λ ok h. unfold stepOf in go (outcomeOf (effectOf s p .act)))
+  where
+    go : (o : Outcome) → o ≡ Refused k → applied o s p (effectOf s p .task) (effectOf s p .write) ≡ s
+    go (Made Moved) e = let z : _≡_ {A = ℕ} 0 1 = cc in absurd (omega arith)
+    go (Made Waited) e = refl
+    go (Refused j) e = refl
+
+-- "A turn that waits changes nothing"
+pub waited-still : (s : State) (p : ℕ) → turnOf s p .outcome ≡ Made Waited → turnOf s p .state ≡ s
+waited-still s p =
+    by-turn (λ r. r .outcome ≡ Made Waited → r .state ≡ s) s p (λ j e. refl)
+    (λ ok h. unfold stepOf in go (outcomeOf (effectOf s p .act)))
+  where
+    go : (o : Outcome) → o ≡ Made Waited → applied o s p (effectOf s p .task) (effectOf s p .write) ≡ s
+    go (Made Moved) e = let z : _≡_ {A = ℕ} 0 1 = cc in absurd (omega arith)
+    go (Made Waited) e = refl
+    go (Refused j) e = refl
 
 -- a move stores its own task, and then writes its word
-moved : (o : Outcome) (s : State) (p : ℕ) (t : Task) (w : Write) → isMoved o ≡ true → applied o s p t w ≡ written w (withTask s p t)
-moved (Made Moved) s p t w e = refl
-moved (Made Waited) s p t w e = absurd (true≢false (sym e))
-moved (Refused k) s p t w e = absurd (true≢false (sym e))
-
-pub turn-moved : (s : State) (p : ℕ) → Valid s → p < s .n → isMoved (effectOf s p .outcome) ≡ true
+pub turn-moved : (s : State) (p : ℕ) → Valid s → p < s .n → effectOf s p .act ≡ Moves
     → turnOf s p .state ≡ written (effectOf s p .write) (withTask s p (effectOf s p .task))
-turn-moved s p ok h e =
-    rw (turn-step s p ok h, step-state s p) (moved (effectOf s p .outcome) s p (effectOf s p .task) (effectOf s p .write) e)
+turn-moved s p ok h e = rw (turn-step s p ok h, step-state s p, e)
+
+-- ---- what a turn stores, straight on
+
+-- all that an effect has, stored whatever the outcome: the own task, the arrivals, the sense, and the task that is written to
+abbrev pub stored : State → ℕ → Effect → State
+stored s p e =
+    let tasks = set (s .tasks) p (e .task) in
+    record {
+      kind = s .kind;
+      n = s .n;
+      modulus = s .modulus;
+      arrivals = arrivalsAfter (e .write) (s .arrivals);
+      sense = senseAfter (e .write) (s .sense);
+      parents = s .parents;
+      tasks = set tasks (placeOf (e .write) p) (taskAfter (e .write) (getD tasks (placeOf (e .write) p) zeroTask));
+    }
+
+stored-move : (w : Write) (s : State) (p : ℕ) (u : Task) → written w (withTask s p u) ≡ stored s p (moves u w)
+stored-move Nothing s p u = ap (withTasks s) (sym (set-getD (set (s .tasks) p u) p zeroTask))
+stored-move (Arrivals x) s p u = ap (λ (ts : List Task). withArrivals (withTasks s ts) x) (sym (set-getD (set (s .tasks) p u) p zeroTask))
+stored-move (Sense x) s p u = ap (λ (ts : List Task). withSense (withTasks s ts) x) (sym (set-getD (set (s .tasks) p u) p zeroTask))
+stored-move (Toggle q x) s p u = refl
+stored-move (Flag q x) s p u = refl
+
+-- a wait's effect has the task that stood there, and writes nothing
+stored-stays : (s : State) (p : ℕ) → s ≡ stored s p (waits (taskAt s p))
+stored-stays s p = ap (withTasks s) (sym (set-getD (set (s .tasks) p (taskAt s p)) p zeroTask ∙ set-getD (s .tasks) p zeroTask))
+
+-- a turn that is made stores all that its effect has
+pub step-made : (s : State) (p : ℕ) (how : Move) → outcomeOf (effectOf s p .act) ≡ Made how
+    → stepOf s p ≡ record { state = stored s p (effectOf s p); outcome = outcomeOf (effectOf s p .act) }
+unfolding stepOf
+step-made s p how made =
+    ap (λ (x : State). record { state = x; outcome = outcomeOf (effectOf s p .act) }) (go (effectOf s p) (effect-does s p) made)
+  where
+    go : (e : Effect) → Does (sharedOf s) (taskAt s p) e → outcomeOf (e .act) ≡ Made how
+        → applied (outcomeOf (e .act)) s p (e .task) (e .write) ≡ stored s p e
+    go _ (keeps {u} {w} c) m = stored-move w s p u
+    go _ (raises {u} {w} l c) m = stored-move w s p u
+    go _ stays m = stored-stays s p
+    go _ (refused-7 k) m = let z : _≡_ {A = ℕ} 0 1 = cc in absurd (omega arith)
+    go _ (refused-11 l) m = let z : _≡_ {A = ℕ} 0 1 = cc in absurd (omega arith)
+
+-- a turn that is refused leaves the state
+pub step-refused : (s : State) (p k : ℕ) → outcomeOf (effectOf s p .act) ≡ Refused k → stepOf s p ≡ refusedTurn s k
+unfolding stepOf
+step-refused s p k e = rw e
+
+-- the two for a turn: what it is, by its line's outcome
+module _ (s : State) (p : ℕ) (ok : Valid s) (h : p < s .n) where
+  pub turn-made : (how : Move) → outcomeOf (effectOf s p .act) ≡ Made how → turnOf s p ≡ record { state = stored s p (effectOf s p); outcome = Made how }
+  turn-made how e = turn-step s p ok h ∙ step-made s p how e ∙ ap (λ (o : Outcome). record { state = stored s p (effectOf s p); outcome = o }) e
+
+  pub turn-refused : (k : ℕ) → outcomeOf (effectOf s p .act) ≡ Refused k → turnOf s p ≡ refusedTurn s k
+  turn-refused k e = turn-step s p ok h ∙ step-refused s p k e
+
+-- ---- what a turn never changes
 
 -- kind, N, R and parents never change
 pub record Constants (s s′ : State) : Type 0 where
@@ -161,7 +230,7 @@ constants-applied (Refused k) s p t w = constants-refl s
 pub turn-constants : (s : State) (p : ℕ) → Constants s (turnOf s p .state)
 turn-constants s p =
     by-turn (λ r. Constants s (r .state)) s p (λ k. constants-refl s)
-    (λ ok h. rw (step-state s p) (constants-applied (effectOf s p .outcome) s p (effectOf s p .task) (effectOf s p .write)))
+    (λ ok h. rw (step-state s p) (constants-applied (outcomeOf (effectOf s p .act)) s p (effectOf s p .task) (effectOf s p .write)))
 
 -- ---- the tasks after a store
 

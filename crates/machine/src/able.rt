@@ -1,4 +1,5 @@
 // Ready. specs/Ready.antt defines it.
+use crate::Outcome;
 use crate::Readied;
 use crate::Ready;
 use crate::State;
@@ -10,12 +11,15 @@ ghost use Rattle.machine.specs.Ready as defs;
 impl State {
     // The least task that can move, of a state in range.
     fn able(self) -> Ready
-        ensures { λ r. ⌜ (Valid self → r ≡ defs.readyFrom self (self .n) 0) ⌝ }
+        requires { ⌜ Valid self ⌝ }
+        ensures { λ r. ⌜ r ≡ defs.readyFrom self (self .n) 0 ⌝ }
     {
         let n = self.n as usize;
         let mut q = 0;
         while q < n {
-            if turn::is_moved(self.outcome(q)) {
+            let effect = self.effect(q);
+            let act = effect.act;
+            if turn::is_moved(Outcome::of(act)) {
                 return Ready::Task(q);
             }
             q += 1;

@@ -2,14 +2,13 @@
 use crate::Fresh;
 use crate::Setup;
 use crate::State;
-use crate::Task;
 use crate::range;
-use crate::tasks;
+use lines::Task;
 use parents::Checked;
 ghost use mathlib.Core.Path.{_≡_};
 ghost use Prim.Native.Nat.{_≤_};
 ghost use lib.ListN.{length, replicate};
-ghost use Rattle.machine.specs.Setters.{zeroTask};
+ghost use Rattle.lines.specs.Setters.{zeroTask, withLine};
 ghost use Rattle.machine.specs.Fresh as defs;
 
 // 0, or the reason that refuses the table: 5 or 6.
@@ -33,11 +32,28 @@ fn fresh_sense(kind: usize) -> u8
     if kind == 1 { 1 } else { 0 }
 }
 
+// The task whose fields are all 0.
+fn zero_task() -> Task
+    ensures { λ r. ⌜ r ≡ zeroTask ⌝ }
+{
+    Task {
+        aim: 0,
+        toggle: 0,
+        flag: 0,
+        count: 0,
+        list: 0,
+        line: 0,
+        tag: 0,
+        old: 0,
+        looked: 0,
+    }
+}
+
 // 64 tasks whose fields are all 0.
 fn zero_tasks() -> [Task; 64]
     ensures { λ r. ⌜ r ≡ replicate 64 zeroTask ⌝ }
 {
-    let zero = tasks::zero_task();
+    let zero = zero_task();
     [zero; 64]
 }
 
@@ -48,17 +64,24 @@ fn zero_table() -> [u8; 64]
     [0; 64]
 }
 
+// A fresh task: at line 11, all else 0.
+fn fresh_task() -> Task
+    ensures { λ r. ⌜ r ≡ withLine zeroTask 11 ⌝ }
+{
+    let mut fresh = zero_task();
+    fresh.line = 11;
+    fresh
+}
+
 // The tasks of a fresh state: n at line 11, and all zero from n on.
 fn fresh_tasks(n: usize) -> [Task; 64]
     requires { ⌜ n ≤ 64 ⌝ }
-    ensures { λ r. ⌜ r ≡ defs.freshTasks n ⌝ }
+    ensures { λ r. ⌜ r ≡ defs.freshTasks n (λ _. withLine zeroTask 11) ⌝ }
 {
-    let mut fresh = tasks::zero_task();
-    fresh.line = 11;
     let mut all = zero_tasks();
     let mut q = 0;
     while q < n {
-        all[q] = fresh;
+        all[q] = fresh_task();
         q += 1;
     }
     all

@@ -1,30 +1,12 @@
-// The step machine of the four barriers: a fresh state, a turn, and who is ready. What each call answers is defined in
-// specs/, and the modules here follow its files: `initial` (Fresh), `range`, `lines`, the four barriers, `turn`, `able`
-// (Ready). Every function is total, and its contract is an equation with its definition.
+// The step machine of the four barriers: a fresh state, a turn, and who is ready. It gathers what a line reads, stores what it writes, and
+// checks ranges; what a line does is the crate `lines`. What each call answers is defined in specs/, and the modules here follow its files:
+// `initial` (Fresh), `range`, `turn`, `able` (Ready). Every public function is total, and its contract is an equation with its definition.
 mod able;
-mod increment;
 mod initial;
-mod lines;
 mod range;
-mod ring;
-mod symmetric;
-mod tasks;
-mod tree;
 mod turn;
 
-// A task of the barrier. Which fields a kind uses is said in specs/Range.antt; the others are 0. The wide fields stand
-// first, so that a task takes 24 bytes and a state 1,608.
-pub struct Task {
-    pub list: u64,
-    pub count: u32,
-    pub line: u8,
-    pub tag: u8,
-    pub old: u8,
-    pub looked: u8,
-    pub aim: u8,
-    pub toggle: u8,
-    pub flag: u8,
-}
+use lines::Task;
 
 // A barrier: its kind, its n tasks, the words that they share, and for a tree the table of parents. Tasks and parents
 // from n on are 0.
@@ -48,22 +30,6 @@ pub enum Move {
 pub enum Outcome {
     Made(Move),
     Refused(u8),
-}
-
-// What a line writes besides its own task: nothing, or one shared word. A toggle and a flag name their task.
-pub enum Write {
-    Nothing,
-    Arrivals(u8),
-    Sense(u8),
-    Toggle(usize, u8),
-    Flag(usize, u8),
-}
-
-// What a line does: its answer, and for a move the task as it is then and what is written elsewhere.
-pub struct Effect {
-    pub outcome: Outcome,
-    pub task: Task,
-    pub write: Write,
 }
 
 // A turn's answer, with the state after it.

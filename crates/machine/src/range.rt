@@ -1,10 +1,10 @@
 // The range of a state. specs/Range.antt defines each.
 use crate::State;
-use crate::Task;
-use crate::lines;
-use crate::tasks;
+use lines::MAX_COUNT;
+use lines::Task;
 use parents::Checked;
 ghost use mathlib.Core.Path.{_≡_};
+ghost use Prim.Native.Nat.{min};
 ghost use lib.Dec.{eqb, ltb};
 ghost use Rattle.bitset.specs.Choice.{pick};
 ghost use Rattle.parents.specs.Parents.{checkNumber};
@@ -29,7 +29,7 @@ pub(crate) fn modulus_ok(kind: usize, modulus: usize) -> bool
     }
 }
 
-// The last line of a kind.
+// The last line of a kind; 0 where there is no such kind.
 fn last_line(kind: u8) -> u8
     ensures { λ r. ⌜ r ≡ defs.lastLine kind ⌝ }
 {
@@ -37,8 +37,16 @@ fn last_line(kind: u8) -> u8
         0 => 14,
         1 => 16,
         2 => 15,
-        _ => 18,
+        3 => 18,
+        4..=255 => 0,
     }
+}
+
+// How many of the 64 entries are the table of n tasks.
+fn table_length(n: u8) -> usize
+    ensures { λ r. ⌜ r ≡ min n 64 ⌝ }
+{
+    if n < 64 { n as usize } else { 64 }
 }
 
 // A field that the kind uses is below its bound; another is 0.
@@ -97,7 +105,7 @@ impl State {
             0 => bitset::all(self.n as usize),
             3 => {
                 let parents = self.parents;
-                let length = tasks::table_length(self.n);
+                let length = table_length(self.n);
                 parents::children(&parents[..length], q)
             }
             _ => 0,
@@ -113,7 +121,7 @@ impl State {
         let modulus = self.modulus as usize;
         (11 <= task.line)
             & (task.line <= last_line(kind))
-            & (task.count <= lines::MAX_COUNT)
+            & (task.count <= MAX_COUNT)
             & field_ok(kind == 0, modulus, task.tag)
             & field_ok(kind == 0, modulus, task.old)
             & field_ok((kind == 0) | (kind == 3), n, task.looked)
@@ -156,7 +164,7 @@ impl State {
         if self.kind != 3 {
             return all_zero(&parents);
         }
-        let length = tasks::table_length(self.n);
+        let length = table_length(self.n);
         let rest = all_zero(&parents[length..]);
         accepted(parents::check(&parents[..length], self.n as usize)) & rest
     }

@@ -1,18 +1,15 @@
-// A turn: which rule applies, what it does to the state, and the refusals. specs/Turn.antt defines each.
-use crate::Effect;
+// A turn: what its line does to the state, and the refusals. specs/Turn.antt defines each.
 use crate::Move;
 use crate::Outcome;
 use crate::State;
-use crate::Task;
 use crate::Turned;
-use crate::Write;
-use crate::increment;
-use crate::ring;
-use crate::symmetric;
-use crate::tasks;
-use crate::tree;
+use lines::Act;
+use lines::Effect;
+use lines::Shared;
+use lines::rule;
 ghost use mathlib.Core.Path.{_≡_};
-ghost use Rattle.machine.specs.Setters.{taskAt};
+ghost use Prim.Native.Nat.{_<_};
+ghost use Rattle.machine.specs.Range.{Valid};
 ghost use Rattle.machine.specs.Turn as defs;
 
 // Whether the answer is moved.
@@ -28,72 +25,65 @@ pub(crate) fn is_moved(outcome: Outcome) -> bool
     }
 }
 
-impl State {
-    // What the line of a task does, where `own` is the task and `seen` the one that it looks at. Each barrier gets only
-    // the words that its lines read.
-    fn effect(self, task: usize, own: Task, seen: Task) -> Effect
-        ensures { λ r. ⌜ (seen ≡ taskAt self (own .looked) → r ≡ defs.effectBy self task own) ⌝ }
+impl Outcome {
+    // What a turn answers, by its line's own outcome.
+    pub fn of(act: Act) -> Outcome
+        ensures { λ r. ⌜ r ≡ defs.outcomeOf act ⌝ }
     {
-        let kind = self.kind;
-        match kind {
-            0 => symmetric::line(own.line, self.n, self.modulus, seen.tag, own),
-            1 => increment::line(own.line, self.n, self.arrivals, self.sense, own),
-            2 => ring::line(own.line, self.n, task, own),
-            _ => {
-                let parents = self.parents;
-                let length = tasks::table_length(self.n);
-                tree::line(own.line, &parents[..length], task, seen.flag, own)
-            }
+        match act {
+            Act::Moves => Outcome::Made(Move::Moved),
+            Act::Waits => Outcome::Made(Move::Waited),
+            Act::Refuses(reason) => Outcome::Refused(reason),
         }
     }
+}
 
-    // What a turn of a task would answer.
-    pub(crate) fn outcome(self, task: usize) -> Outcome
-        ensures { λ r. ⌜ r ≡ defs.effectOf self task .outcome ⌝ }
+impl State {
+    // What the line of a known task does, in a state in range: what it reads is gathered, and the rule applied.
+    pub(crate) fn effect(self, task: usize) -> Effect
+        requires { ⌜ Valid self ⌝ }
+        requires { ⌜ task < self .n ⌝ }
+        ensures { λ r. ⌜ r ≡ defs.effectOf self task ⌝ }
     {
-        let place = tasks::place(task);
-        let own = tasks::task_at(task, self.tasks[place]);
+        let own = self.tasks[task];
         let looked = own.looked as usize;
-        let there = tasks::place(looked);
-        let seen = tasks::task_at(looked, self.tasks[there]);
-        let effect = self.effect(task, own, seen);
-        effect.outcome
+        let seen = self.tasks[looked];
+        let parents = self.parents;
+        let n = self.n as usize;
+        let shared = Shared {
+            kind: self.kind,
+            n: self.n,
+            modulus: self.modulus,
+            arrivals: self.arrivals,
+            sense: self.sense,
+        };
+        rule::effect_of(shared, &parents[..n], task, own, seen)
     }
 
-    // One line of a task: a move stores the task, then the shared word. It looks at no range: that the state is in
-    // range and the task below N is what `turn`, and a run before its first turn, have looked at.
-    pub fn step(mut self, task: usize) -> Turned
+    // One line of a known task, in a state in range. All that the effect has is stored, whether it moves or waits: where it waits, that is
+    // what stood there.
+    fn step(mut self, task: usize) -> Turned
+        requires { ⌜ Valid self ⌝ }
+        requires { ⌜ task < self .n ⌝ }
         ensures { λ r. ⌜ r ≡ defs.stepOf self task ⌝ }
     {
-        let place = tasks::place(task);
-        let own = tasks::task_at(task, self.tasks[place]);
-        let looked = own.looked as usize;
-        let there = tasks::place(looked);
-        let seen = tasks::task_at(looked, self.tasks[there]);
-        let effect = self.effect(task, own, seen);
-        let outcome = effect.outcome;
-        if is_moved(outcome) {
-            let next = effect.task;
-            let write = effect.write;
-            if task < 64 {
-                self.tasks[task] = next;
-            }
-            match write {
-                Write::Nothing => {}
-                Write::Arrivals(x) => self.arrivals = x,
-                Write::Sense(x) => self.sense = x,
-                Write::Toggle(q, x) => {
-                    if q < 64 {
-                        self.tasks[q].toggle = x;
-                    }
-                }
-                Write::Flag(q, x) => {
-                    if q < 64 {
-                        self.tasks[q].flag = x;
-                    }
-                }
-            }
-        }
+        let effect = self.effect(task);
+        let act = effect.act;
+        let outcome = Outcome::of(act);
+        let Outcome::Made(_) = outcome else {
+            return Turned {
+                state: self,
+                outcome,
+            };
+        };
+        let next = effect.task;
+        let write = effect.write;
+        self.tasks[task] = next;
+        self.arrivals = write.arrivals(self.arrivals);
+        self.sense = write.sense(self.sense);
+        let place = write.place(task);
+        let there = self.tasks[place];
+        self.tasks[place] = write.task(there);
         Turned {
             state: self,
             outcome,

@@ -1,7 +1,7 @@
 -- Laws of parent tables: what the check accepts, and who is a child.
 use mathlib.Core.Path.{_≡_, refl, sym, ap, _∙_}
 use mathlib.Core.Bool.{Bool, true, false, false≢true, _&&_, not, and-eq-true-iff}
-use mathlib.Core.List.{List}
+use mathlib.Core.List.{List, map}
 use mathlib.Core.Logic.{_≢_, _↔_, _⊎_, inl, inr}
 use Prim.Native.Nat.{ℕ, zero, suc, _+_, _^_, _≤_, _<_}
 use native.Mathlib.Nat.{eq-or-lt-of-le, le-of-suc-le-suc}
@@ -9,7 +9,7 @@ use native.Mathlib.Numerals.{add-one}
 use native.Mathlib.Decide.{ℕ-discrete, decLt}
 use native.Mathlib.Omega.{arith}
 use lib.Dec.{eqb, ltb}
-use lib.ListN.{length, List·getD-eq-default}
+use lib.ListN.{length, getD, length-map, List·getD-map, List·getD-eq-default}
 use borrow.Author.Tests.{eq-eqb, ne-eqb, lt-ltb, le-ltb, eqb-true, eqb-false, ltb-true}
 use Rattle.bitset.specs.Choice.{pick}
 use Rattle.bitset.specs.Set.{bit, withOf}
@@ -159,3 +159,21 @@ children-lt table p (suc r) = go (isChild table p r) (children-lt table p r)
     go : (b : Bool) → childrenBelow table p r < 2 ^ 64 → pick b (withOf (childrenBelow table p r) r) (childrenBelow table p r) < 2 ^ 64
     go true h = with-lt (childrenBelow table p r) r h
     go false h = h
+
+-- the entries of an accepted table are tasks
+pub entries-below : (table : List ℕ) (n q : ℕ) → checkOf table n ≡ 0 → q < length table → parentOf table q < n
+entries-below table n zero e l = let t = accepted table n e in omega (arith, t .root, t .long)
+entries-below table n (suc q) e l = let t = accepted table n e in omega (arith, t .lower (suc q) (omega arith) (omega (arith, t .long)), t .long)
+
+-- a table whose entries compare with 0 and with the tasks as another's do is checked alike
+module _ (f : ℕ → ℕ) (n : ℕ) (zeros : (x : ℕ) → eqb (f x) 0 ≡ eqb x 0) (lower : (x q : ℕ) → q < n → ltb (f x) q ≡ ltb x q) (table : List ℕ) where
+  entries-alike : f 0 ≡ 0 → (m : ℕ) → m ≤ n → entriesOk (map f table) m ≡ entriesOk table m
+  unfolding entriesOk
+  entries-alike z zero h = refl
+  entries-alike z (suc q) h =
+      let mapped : parentOf (map f table) q ≡ f (parentOf table q) = ap (getD (map f table) q) (sym z) ∙ List·getD-map f table q 0 in
+      rw (entries-alike z q (omega arith), mapped, zeros (parentOf table q), lower (parentOf table q) q (omega arith))
+
+  pub check-alike : f 0 ≡ 0 → checkOf (map f table) n ≡ checkOf table n
+  unfolding checkOf
+  check-alike z = rw (length-map table f, entries-alike z n (omega arith))

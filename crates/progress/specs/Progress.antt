@@ -1,11 +1,12 @@
--- The progress rule: 2 * M stretches that each name every task raise the least count. While the least count stays, the able task stays able
--- until somebody moves, and each stretch names it; so each stretch raises Φ, and 2 * M of them would raise it past its bound.
+-- The progress rule: k stretches that each name every task raise the least count, if k is at least the window. While the least count stays,
+-- the able task stays able until somebody moves, and each stretch names it; so each stretch raises Φ, and k of them would raise it by k or
+-- more, where less than the window is allowed.
 use mathlib.Core.Path.{_≡_, refl, subst}
 use mathlib.Core.Bool.{Bool, true, false, false≢true, _||_}
 use mathlib.Core.List.{List, [], _∷_, _++_, flatten}
 use mathlib.Core.Logic.{_⊎_, inl, inr}
-use Prim.Native.Nat.{ℕ, _+_, _*_, _≤_, _<_}
-use native.Mathlib.Nat.{lt-of-not-le, le-refl, le-trans, mul-le-mul-right}
+use Prim.Native.Nat.{ℕ, _+_, _≤_, _<_}
+use native.Mathlib.Nat.{lt-of-not-le, le-refl, le-trans}
 use native.Mathlib.Omega.{arith}
 use lib.Dec.{eqb}
 use lib.ListN.{length}
@@ -72,15 +73,13 @@ module _ {S : Type 0} {n : ℕ} {turn : S → ℕ → S} {Counts : S → ℕ →
       let ih = stretches-raise ss s′ i′ (named .1) (halves .1) low′ in
       rw after-append (omega (arith, up, ih))
 
-  -- 01: the progress rule
-  pub progress : (s : S) (ts : List ℕ) → c .Inv s → c .least s < c .limit → AllCount turn Counts s ts → CutInto n (2 * c .M) ts
+  -- 01: the progress rule, for any number of stretches from the window on
+  pub progress : {k : ℕ} (s : S) (ts : List ℕ) → c .Inv s → c .least s < c .limit → AllCount turn Counts s ts → CutInto n k ts → c .window ≤ k
       → c .least s < c .least (after turn s ts)
-  progress s ts i low k cut = lt-of-not-le (λ stays. absurd (omega (arith, far stays, c .under (after turn s ts) (keeps-all s ts i), c .above s i, bound stays)))
+  progress {k} s ts i low counts cut enough =
+      lt-of-not-le (λ stays. absurd (omega (arith, far stays, c .near s (after turn s ts) i (keeps-all s ts i) stays)))
     where
-      far : c .least (after turn s ts) ≤ c .least s → c .Φ s + 2 * c .M ≤ c .Φ (after turn s ts)
+      far : c .least (after turn s ts) ≤ c .least s → c .Φ s + k ≤ c .Φ (after turn s ts)
       far stays =
           rw (← cut .number, ← cut .whole)
-          (stretches-raise (cut .stretches) s i (cut .named) (rw (cut .whole) k) (rw (cut .whole) (omega arith)))
-
-      bound : c .least (after turn s ts) ≤ c .least s → (c .least (after turn s ts) + 2) * c .M ≤ (c .least s + 2) * c .M
-      bound stays = mul-le-mul-right (c .M) (omega arith)
+          (stretches-raise (cut .stretches) s i (cut .named) (rw (cut .whole) counts) (rw (cut .whole) (omega arith)))

@@ -3,11 +3,9 @@
 -- below N it is the token, at task `loc`; from N on it is the acknowledgement, at task `loc − N`. `c` is the number of rounds it has made.
 use mathlib.Core.Path.{_≡_}
 use Prim.Native.Nat.{ℕ, _+_, _-_, _≤_, _<_}
-use Rattle.machine.specs.declared.Task.{Task}
-use Rattle.machine.specs.declared.State.{State}
-use Rattle.machine.specs.Setters.{taskAt}
-use Rattle.machine.specs.Range.{Valid}
-use Rattle.machine.specs.Ring.{nz}
+use Rattle.lines.specs.declared.Task.{Task}
+use Rattle.lines.specs.Ring.{nz}
+use Rattle.barrier.specs.View.{View}
 
 -- a task at one of the lines l to h, with this toggle and this count
 pub record Has (l h toggle count : ℕ) (t : Task) : Type 0 where
@@ -41,18 +39,10 @@ pub record Seen (n loc c q : ℕ) (t : Task) : Type 0 where
   pub answer : loc ≡ q + n → HasAnswer q (c + 1) t
   pub past : q + n < loc → Waits q (c + 1) t
 
-pub record Located (s : State) (loc c : ℕ) : Type 0 where
-  -- Iq6
-  pub below : loc < s .n + s .n
-  pub seen : (q : ℕ) → q < s .n → Seen (s .n) loc c q (taskAt s q)
-
 -- the message is somewhere
-pub record Somewhere (s : State) : Type 0 where
+pub record Inv (v : View) : Type 0 where
   pub loc : ℕ
   pub c : ℕ
-  pub located : Located s loc c
-
-pub record Inv (s : State) : Type 0 where
-  pub in-range : Valid s
-  pub of-kind : s .kind ≡ 2
-  pub somewhere : Somewhere s
+  -- Iq6
+  pub below : loc < v .n + v .n
+  pub seen : (q : ℕ) → q < v .n → Seen (v .n) loc c q (v .task q)

@@ -3,7 +3,7 @@ use mathlib.Core.Path.{_≡_}
 use Prim.Native.Nat.{ℕ, _+_, _≤_, _<_}
 use native.Mathlib.Decide.{ℕ-discrete, decLt}
 use native.Mathlib.Omega.{arith}
-use Rattle.machine.specs.declared.Task.{Task}
+use Rattle.lines.specs.declared.Task.{Task}
 use Rattle.ring.specs.Invariant.{Waits, HasToken, Between, HasAnswer, Seen}
 
 module _ {n loc c q : ℕ} {t : Task} (s : Seen n loc c q t) where

@@ -10,10 +10,11 @@ use lib.ListN.{length, take}
 use lib.Seq.{take-all}
 use borrow.Author.Tests.{eq-eqb, ne-eqb, le-leb, lt-leb}
 use Rattle.machine.specs.declared.State.{State}
-use Rattle.machine.specs.Range.{stateOk, checkState, Valid}
-use Rattle.machine.specs.TurnLaws.{by-test}
+use Rattle.machine.specs.Range.{checkState, Valid}
+use Rattle.machine.specs.RangeLaws.{check-not-9}
 use Rattle.schedule.specs.Passes.{maxTurns, unknownAt, allTasks}
 use Rattle.schedule.specs.PassesLaws.{unknown-le}
+use Rattle.runner.specs.declared.Ending.{Ending}
 use Rattle.runner.specs.declared.Ran.{Ran}
 use Rattle.runner.specs.Trace.{traceOf}
 use Rattle.runner.specs.Run.{runReason, runPlace, ranOf, refusedRun, unstopped, runOf, loggedOf, logAfter}
@@ -31,11 +32,8 @@ module _ (s : State) (schedule : List ℕ) (allowance : ℕ) (log : List ℕ) wh
 
   pub refuses-7 : (k : ℕ) → k ≡ checkState s → k ≢ 0 → (r : Ran) → r ≡ refusedRun s k 0
       → (r ≡ runOf s schedule allowance log) × (log ≡ logAfter s schedule allowance log)
-  unfolding runReason checkState
-  refuses-7 k e ne = refuses k 0 (rw (← e, ne-eqb k 0 ne)) ne (rw (ne-eqb k 9 (not-9 k e)))
-    where
-      not-9 : (k : ℕ) → k ≡ checkState s → k ≢ 9
-      not-9 k e = by-test (λ x. k ≡ x → k ≢ 9) (stateOk s) (λ _ q. omega arith) (λ _ q. omega arith) e
+  unfolding runReason
+  refuses-7 k e ne = refuses k 0 (rw (← e, ne-eqb k 0 ne)) ne (rw (ne-eqb k 9 (rw e (check-not-9 s))))
 
   module _ (ok : Valid s) where
     pub refuses-8 : maxTurns < length schedule → (r : Ran) → r ≡ refusedRun s 8 0
@@ -69,15 +67,15 @@ module _ (s : State) (schedule : List ℕ) (allowance : ℕ) (log : List ℕ) wh
             go (yes l) = let e : count ≡ allowance = omega arith in rw e
             go (no l) = take-all allowance schedule (omega arith) ∙ sym (take-all count schedule (omega arith))
 
-        pub accepts : 2 * count ≤ length log → (r : Ran) (after : List ℕ)
-            → r ≡ ranOf (traceOf s (take count schedule)) (unstopped allowance (length schedule))
+        pub accepts : 2 * count ≤ length log → (end : Ending) → end ≡ unstopped allowance (length schedule) → (r : Ran) (after : List ℕ)
+            → r ≡ ranOf (traceOf s (take count schedule)) end
             → after ≡ loggedOf (traceOf s (take count schedule)) log
             → (r ≡ runOf s schedule allowance log) × (after ≡ logAfter s schedule allowance log)
         unfolding runOf logAfter runReason
-        accepts h r after e q =
+        accepts h end ee r after e q =
             let zero : reason ≡ 0
             = rw (eq-eqb (checkState s) 0 ok, le-leb (length schedule) maxTurns few, known, le-leb (2 * min allowance (length schedule)) (length log) (rw fewer at h)) in
-            (e ∙ rw (eq-eqb reason 0 zero, turns-made), q ∙ rw (eq-eqb reason 0 zero, turns-made))
+            (e ∙ rw (eq-eqb reason 0 zero, turns-made, ee), q ∙ rw (eq-eqb reason 0 zero, turns-made))
 
 -- every turn is a task where the first that is none stands at the end
 pub all-tasks : (n place : ℕ) (schedule : List ℕ) → place ≡ unknownAt n schedule → length schedule ≤ place → allTasks n schedule ≡ true

@@ -1,9 +1,10 @@
 -- A run (01, "Run" and the reasons): everything is read off one trace.
 use mathlib.Core.List.{List, [], _∷_, _++_}
-use Prim.Native.Nat.{ℕ, zero, suc, _+_, _*_, min}
+use Prim.Native.Nat.{ℕ, _+_, _*_, min}
 use lib.Dec.{eqb, leb, ltb}
 use lib.ListN.{length, take, drop, replicate}
 use Rattle.bitset.specs.Choice.{pick}
+use Rattle.bitset.specs.Table.{table}
 use Rattle.machine.specs.declared.State.{State}
 use Rattle.machine.specs.declared.Move.{Move}
 use Rattle.machine.specs.declared.Move.the-variants.{Moved, Waited}
@@ -32,11 +33,6 @@ movesIn rs q = tallyIn moveNumber rs q
 abbrev pub waitsIn : List Row → ℕ → ℕ
 waitsIn rs q = tallyIn waitNumber rs q
 
--- the values of f at 0 to n − 1
-unfoldable pub table : ℕ → (ℕ → ℕ) → List ℕ
-table zero f = []
-table (suc n) f = table n f ++ f n ∷ []
-
 -- "each turn's two bytes .. : the line before the turn, then 1 moved or 0 waited"
 unfoldable pub logOf : List Row → List ℕ
 logOf [] = []
@@ -50,6 +46,19 @@ unstopped allowance turns = pick (ltb allowance turns) Spent Done
 abbrev pub endingOf : Stop → Ending → Ending
 endingOf nothing end = end
 endingOf (refusal p k) end = Stopped k
+
+-- the paper's numbers of an ending: the reason, 0 where nothing was refused; the place of 9
+abbrev pub endingReason : Ending → ℕ
+endingReason Done = 0
+endingReason Spent = 0
+endingReason (Stopped k) = k
+endingReason (Refused k at) = k
+
+abbrev pub endingPlace : Ending → ℕ
+endingPlace Done = 0
+endingPlace Spent = 0
+endingPlace (Stopped k) = 0
+endingPlace (Refused k at) = at
 
 -- "A run 7 to 10"; 10: a "log under twice the smaller of allowance and schedule length", of `room` bytes here
 unfoldable pub runReason : State → List ℕ → ℕ → ℕ → ℕ

@@ -1,19 +1,32 @@
--- Laws of what is read off a trace: the tallies, the log and the answers.
+-- Laws of what is read off a trace: the tallies, the log, and the turns made.
 use mathlib.Core.Path.{_≡_, refl, sym, ap, _∙_}
 use mathlib.Core.Bool.{Bool, true, false}
 use mathlib.Core.List.{List, [], _∷_, _++_}
-use mathlib.Core.Logic.{_≢_, _⊎_, inl, inr}
-use Prim.Native.Nat.{ℕ, zero, suc, _+_, _*_, _≤_, _<_}
-use native.Mathlib.Nat.{eq-or-lt-of-le, le-of-suc-le-suc}
+use mathlib.Core.Logic.{_⊎_, inl, inr}
+use Prim.Native.Nat.{ℕ, suc, _+_, _*_, _≤_, _<_, min}
 use native.Mathlib.Omega.{arith}
-use lib.Dec.{eqb}
-use lib.ListN.{length, getD, set, length-append, List·getD-append}
-use lib.Seq.{set-append-left, set-at, getD-at}
+use lib.Dec.{eqb, leb, ltb}
+use lib.ListN.{length, take, getD, length-take}
+use lib.Seq.{getD-take}
+use borrow.Author.Tests.{eq-eqb, eqb-true, eqb-false}
 use Rattle.bitset.specs.Choice.{pick}
+use Rattle.bitset.specs.ChoiceLaws.{by-test}
+use Rattle.schedule.specs.Passes.{maxTurns, allTasks}
+use Rattle.schedule.specs.PassesLaws.{all-known}
+use Rattle.machine.specs.declared.State.{State}
 use Rattle.machine.specs.declared.Move.{Move}
-use Rattle.machine.specs.Turn.{moveNumber}
-use Rattle.runner.specs.Trace.{Row}
-use Rattle.runner.specs.Run.{tallyIn, table, logOf}
+use Rattle.machine.specs.declared.Move.the-variants.{Moved, Waited}
+use Rattle.machine.specs.declared.Outcome.the-variants as outcome
+use Rattle.machine.specs.Range.{checkState, Valid}
+use Rattle.machine.specs.Turn.{turnOf, moveNumber}
+use Rattle.machine.specs.TurnLaws.{turn-constants}
+use Rattle.machine.specs.KeepLaws.{turn-valid}
+use Rattle.machine.specs.CountLaws.{turn-refusals}
+use Rattle.runner.specs.declared.Ending.the-variants.{Stopped}
+use Rattle.runner.specs.declared.Ran.{Ran}
+use Rattle.runner.specs.Trace.{Row, Stop, nothing, refusal, Trace, traceOf}
+use Rattle.runner.specs.TraceLaws.{made-few, turns-made, trace-keeps, StoppedAt, stopped-at}
+use Rattle.runner.specs.Run.{waitNumber, tallyIn, movesIn, waitsIn, logOf, unstopped, endingReason, runReason, runTrace, ranOf, runOf}
 
 -- ---- tallies
 
@@ -33,43 +46,6 @@ module _ (weight : Move → ℕ) where
       go true h = omega (arith, light (r .how))
       go false h = omega arith
 
--- ---- tables of values
-
-pub length-table : (n : ℕ) (f : ℕ → ℕ) → length (table n f) ≡ n
-unfolding table
-length-table zero f = refl
-length-table (suc n) f = omega (arith, length-append (table n f) (f n ∷ []), length-table n f)
-
-pub table-at : (n : ℕ) (f : ℕ → ℕ) (q : ℕ) → q < n → getD (table n f) q 0 ≡ f q
-unfolding table
-table-at zero f q h = absurd (omega arith)
-table-at (suc n) f q h = go (eq-or-lt-of-le (le-of-suc-le-suc h)) (table-at n f q)
-  where
-    go : (q ≡ n) ⊎ (q < n) → (q < n → getD (table n f) q 0 ≡ f q) → getD (table n f ++ f n ∷ []) q 0 ≡ f q
-    go (inl e) ih = rw e (getD-at (table n f) (f n) [] 0 n (length-table n f))
-    go (inr l) ih = List·getD-append (table n f) (f n ∷ []) 0 q (rw (length-table n f) l) ∙ ih l
-
--- two functions that agree below n have the same table
-pub table-same : (n : ℕ) (f g : ℕ → ℕ) → ((q : ℕ) → q < n → f q ≡ g q) → table n f ≡ table n g
-unfolding table
-table-same zero f g h = refl
-table-same (suc n) f g h =
-    ap (λ (l : List ℕ). l ++ f n ∷ []) (table-same n f g (λ q l. h q (omega arith))) ∙ ap (λ (x : ℕ). table n g ++ x ∷ []) (h n (omega arith))
-
--- one value changed
-pub table-set : (n : ℕ) (f g : ℕ → ℕ) (p : ℕ) → p < n → ((q : ℕ) → q ≢ p → g q ≡ f q) → set (table n f) p (g p) ≡ table n g
-unfolding table
-table-set zero f g p h o = absurd (omega arith)
-table-set (suc n) f g p h o = go (eq-or-lt-of-le (le-of-suc-le-suc h)) (λ l. table-set n f g p l o)
-  where
-    go : (p ≡ n) ⊎ (p < n) → (p < n → set (table n f) p (g p) ≡ table n g) → set (table n f ++ f n ∷ []) p (g p) ≡ table n g ++ g n ∷ []
-    go (inl e) ih =
-        rw (e, set-at (table n f) (f n) [] (g n) n (length-table n f))
-        (ap (λ (l : List ℕ). l ++ g n ∷ []) (table-same n f g (λ q l. sym (o q (omega arith)))))
-    go (inr l) ih =
-        set-append-left (table n f) (f n ∷ []) p (g p) (rw (length-table n f) l)
-        ∙ ap (λ (xs : List ℕ). xs ++ f n ∷ []) (ih l) ∙ ap (λ (x : ℕ). table n g ++ x ∷ []) (sym (o n (omega arith)))
-
 -- ---- the log
 
 pub length-log : (rs : List Row) → length (logOf rs) ≡ 2 * length rs
@@ -81,3 +57,86 @@ pub log-more : (rs : List Row) (r : Row) → logOf (rs ++ r ∷ []) ≡ logOf rs
 unfolding logOf
 log-more [] r = refl
 log-more (x ∷ rs) r = ap (λ (l : List ℕ). x .line ∷ moveNumber (x .how) ∷ l) (log-more rs r)
+
+-- ---- how many
+
+-- no more moves and waits than turns
+tally-turns : (weight : Move → ℕ) → ((how : Move) → weight how ≤ 1) → (s : State) (ts : List ℕ) (q : ℕ) → tallyIn weight (traceOf s ts .made) q ≤ length ts
+tally-turns weight light s ts q = omega (arith, made-few s ts, tally-few weight light (traceOf s ts .made) q)
+
+pub moves-few : (s : State) (ts : List ℕ) (q : ℕ) → movesIn (traceOf s ts .made) q ≤ length ts
+moves-few = tally-turns moveNumber light
+  where
+    light : (how : Move) → moveNumber how ≤ 1
+    light Moved = omega arith
+    light Waited = omega arith
+
+pub waits-few : (s : State) (ts : List ℕ) (q : ℕ) → waitsIn (traceOf s ts .made) q ≤ length ts
+waits-few = tally-turns waitNumber light
+  where
+    light : (how : Move) → waitNumber how ≤ 1
+    light Moved = omega arith
+    light Waited = omega arith
+
+-- ---- the turns made
+
+-- what the reasons 7 and 9 do not refuse
+pub run-accepted : (s : State) (schedule : List ℕ) (allowance room : ℕ) → runReason s schedule allowance room ≡ 0 → Valid s × (allTasks (s .n) schedule ≡ true)
+unfolding runReason
+run-accepted s schedule allowance room = go (eqb (checkState s) 0) (leb (length schedule) maxTurns) (allTasks (s .n) schedule) refl refl refl
+  where
+    go : (a b c : Bool) → eqb (checkState s) 0 ≡ a → leb (length schedule) maxTurns ≡ b → allTasks (s .n) schedule ≡ c
+        → pick a (pick b (pick c (pick (leb (2 * min allowance (length schedule)) room) 0 10) 9) 8) (checkState s) ≡ 0
+        → Valid s × (allTasks (s .n) schedule ≡ true)
+    go true b true ea eb ec e = (eqb-true (checkState s) 0 ea, ec)
+    go true true false ea eb ec e = absurd (omega arith)
+    go true false false ea eb ec e = absurd (omega arith)
+    go false b c ea eb ec e = absurd (eqb-false (checkState s) 0 ea e)
+
+-- 01: "Turns made equals the count of defined turns: the smaller of allowance and length, or those before refusal 11". A run that is not refused
+-- as a whole makes them all, or a turn stopped it, by 7 or 11: then it made strictly fewer, and the turn at that place is the one refused.
+pub data Makes (r : Ran) (schedule : List ℕ) (allowance : ℕ) : Type 0 where
+  all : r .turns ≡ min allowance (length schedule) → r .ending ≡ unstopped allowance (length schedule) → Makes r schedule allowance
+  stopped : (k : ℕ) → (k ≡ 7) ⊎ (k ≡ 11) → r .ending ≡ Stopped k → r .turns < min allowance (length schedule)
+      → turnOf (r .state) (getD schedule (r .turns) 0) .outcome ≡ outcome.Refused k → Makes r schedule allowance
+
+pub run-makes : (s : State) (schedule : List ℕ) (allowance : ℕ) (log : List ℕ) → runReason s schedule allowance (length log) ≡ 0
+    → Makes (runOf s schedule allowance log) schedule allowance
+unfolding runOf
+run-makes s schedule allowance log e = rw (eq-eqb (runReason s schedule allowance (length log)) 0 e) (go (t .stop) refl)
+  where
+    t : Trace
+    t = runTrace s schedule allowance
+
+    few : length (take allowance schedule) ≡ min allowance (length schedule)
+    few = length-take allowance schedule
+
+    accepted : Valid s × (allTasks (s .n) schedule ≡ true)
+    accepted = run-accepted s schedule allowance (length log) e
+
+    go : (st : Stop) → t .stop ≡ st → Makes (ranOf t (unstopped allowance (length schedule))) schedule allowance
+    go nothing st = all (turns-made s schedule allowance st) (rw st)
+    go (refusal p k) st =
+        let a = stopped-at s (take allowance schedule) p k st in
+        let here : getD schedule (length (t .made)) 0 ≡ p = sym (getD-take allowance schedule (length (t .made)) 0 (omega (arith, a .fewer, few))) ∙ a .named in
+        stopped k (why p k a here) (rw st) (omega (arith, a .fewer, few)) (rw here (a .refused))
+      where
+        why : (p k : ℕ) → StoppedAt t (take allowance schedule) p k → getD schedule (length (t .made)) 0 ≡ p → (k ≡ 7) ⊎ (k ≡ 11)
+        why p k a here =
+            turn-refusals (t .state) p k (trace-keeps Valid turn-valid s (take allowance schedule) (accepted .0))
+            (rw (trace-keeps (λ x. x .n ≡ s .n) (λ x q same. turn-constants x q .n ∙ same) s (take allowance schedule) refl, ← here)
+            (all-known (s .n) schedule .0 (accepted .1) (length (t .made)) (omega (arith, a .fewer, few))))
+            (a .refused)
+
+-- the same by the paper's numbers of the ending
+pub run-numbers : (s : State) (schedule : List ℕ) (allowance : ℕ) (log : List ℕ) → runReason s schedule allowance (length log) ≡ 0
+    → (let r = runOf s schedule allowance log in
+    ((endingReason (r .ending) ≡ 0) × (r .turns ≡ min allowance (length schedule)))
+    ⊎ (((endingReason (r .ending) ≡ 7) ⊎ (endingReason (r .ending) ≡ 11)) × (r .turns < min allowance (length schedule))))
+run-numbers s schedule allowance log e = go (runOf s schedule allowance log) (run-makes s schedule allowance log e)
+  where
+    go : (r : Ran) → Makes r schedule allowance
+        → ((endingReason (r .ending) ≡ 0) × (r .turns ≡ min allowance (length schedule)))
+        ⊎ (((endingReason (r .ending) ≡ 7) ⊎ (endingReason (r .ending) ≡ 11)) × (r .turns < min allowance (length schedule)))
+    go r (all t q) = inl (rw q (by-test (λ x. endingReason x ≡ 0) (ltb allowance (length schedule)) (λ _. refl) (λ _. refl)), t)
+    go r (stopped k w q f o) = inr (rw q w, f)

@@ -1,9 +1,9 @@
--- Laws of traces: what a trace has once more turns follow.
-use mathlib.Core.Path.{_≡_, refl, ap, _∙_}
+-- Laws of traces: what a trace has once more turns follow, what its turns keep, and where a refusal ends it.
+use mathlib.Core.Path.{_≡_, refl, sym, ap, _∙_}
 use mathlib.Core.List.{List, [], _∷_, _++_, append-nil}
-use Prim.Native.Nat.{ℕ, suc, _≤_, min}
+use Prim.Native.Nat.{ℕ, suc, _≤_, _<_, min}
 use native.Mathlib.Omega.{arith}
-use lib.ListN.{length, take, length-take}
+use lib.ListN.{length, take, getD, length-take}
 use Rattle.machine.specs.declared.State.{State}
 use Rattle.machine.specs.declared.Move.{Move}
 use Rattle.machine.specs.declared.Outcome.{Outcome}
@@ -89,3 +89,39 @@ made-few s (p ∷ ts) = go (turnOf s p .outcome) (made-few (turnOf s p .state) t
 pub turns-made : (s : State) (schedule : List ℕ) (allowance : ℕ) → traceOf s (take allowance schedule) .stop ≡ nothing
     → length (traceOf s (take allowance schedule) .made) ≡ min allowance (length schedule)
 turns-made s schedule allowance e = made-all s (take allowance schedule) e ∙ length-take allowance schedule
+
+-- ---- what the turns keep
+
+-- what every turn keeps, the turns of a trace keep
+pub trace-keeps : (P : State → Type 0) → ((s : State) (p : ℕ) → P s → P (turnOf s p .state)) → (s : State) (ts : List ℕ) → P s → P (traceOf s ts .state)
+unfolding traceOf
+trace-keeps P k s [] h = h
+trace-keeps P k s (p ∷ ts) h = go (turnOf s p .outcome) (trace-keeps P k (turnOf s p .state) ts (k s p h))
+  where
+    go : (o : Outcome) → P (traceOf (turnOf s p .state) ts .state) → P (turned s p o (traceOf (turnOf s p .state) ts) .state)
+    go (Made how) r = r
+    go (Refused k) r = h
+
+-- ---- where a refusal ends it
+
+-- the turns made are strictly fewer, and the turn at the next place is the one refused, in the state that they led to
+pub record StoppedAt (t : Trace) (ts : List ℕ) (p k : ℕ) : Type 0 where
+  pub fewer : length (t .made) < length ts
+  pub named : getD ts (length (t .made)) 0 ≡ p
+  pub refused : turnOf (t .state) p .outcome ≡ Refused k
+
+pub stopped-at : (s : State) (ts : List ℕ) (p k : ℕ) → traceOf s ts .stop ≡ refusal p k → StoppedAt (traceOf s ts) ts p k
+unfolding traceOf
+stopped-at s [] p k e = absurd (refusal-stops p k (sym e))
+stopped-at s (q ∷ ts) p k e = go (turnOf s q .outcome) refl e (stopped-at (turnOf s q .state) ts p k)
+  where
+    rest : Trace
+    rest = traceOf (turnOf s q .state) ts
+
+    go : (o : Outcome) → turnOf s q .outcome ≡ o → turned s q o rest .stop ≡ refusal p k → (rest .stop ≡ refusal p k → StoppedAt rest ts p k)
+        → StoppedAt (turned s q o rest) (q ∷ ts) p k
+    go (Made how) eq st ih = let r = ih st in record { fewer = omega arith; named = r .named; refused = r .refused }
+    go (Refused j) eq st ih =
+        let a : q ≡ p = cc in
+        let b : j ≡ k = cc in
+        record { fewer = omega arith; named = a; refused = rw (← a, ← b) eq }

@@ -1,4 +1,7 @@
-// The run of a schedule. What it answers, and what it writes to the log, is defined in specs/Run.antt.
+// The run of a schedule: the only loop over turns. What it answers, and what it writes to the log, is defined in specs/Run.antt.
+mod dispatch;
+
+use lines::Shared;
 use machine::Move;
 use machine::Outcome;
 use machine::State;
@@ -6,7 +9,7 @@ ghost use mathlib.Core.Path.{_≡_};
 ghost use mathlib.Core.Bool.{true};
 ghost use Prim.Native.Nat.{_+_, _*_, _^_, _≤_, _<_, min};
 ghost use lib.ListN.{length, getD, take, set};
-ghost use Rattle.machine.specs.Range.{Valid};
+ghost use Rattle.machine.specs.Range.{Valid, tableOf};
 ghost use Rattle.machine.specs.Turn.{moveNumber, reasonNumber};
 ghost use Rattle.schedule.specs.Passes.{maxTurns, unknownAt, allTasks};
 ghost use Rattle.runner.specs.Trace.{traceOf};
@@ -99,10 +102,32 @@ fn ended(allowance: usize, turns: usize) -> Ending
     }
 }
 
-// Makes the first `turns` turns of the schedule, from a state in range: each turn's answer is taken apart, moved and waited go on, a
-// refusal ends the run.
-fn turns(mut state: State, schedule: &[u8], turns: usize, end: Ending, log: &mut [u8]) -> Ran
+// The answer of a run that is not refused as a whole.
+fn report(state: State, ending: Ending, turns: usize, moves: [u32; 64], waits: [u32; 64]) -> Ran
+    ensures { λ r. ⌜ r ≡ record { state = state; ending = ending; turns = turns; moves = moves; waits = waits } ⌝ }
+{
+    Ran {
+        state,
+        ending,
+        turns,
+        moves,
+        waits,
+    }
+}
+
+// Makes the first `turns` turns of the schedule, from a state in range, whose parents are lent as `table`: each turn's answer is taken apart,
+// moved and waited go on, a refusal ends the run. The state stays where it is: a turn reads two tasks, and stores all that its effect has,
+// whether it moves or waits. What waits has the task that stood there, and stores without a test are faster than stores that are skipped.
+fn turns(
+    mut state: State,
+    table: &[u8],
+    schedule: &[u8],
+    turns: usize,
+    end: Ending,
+    log: &mut [u8],
+) -> Ran
     requires { ⌜ Valid state ⌝ }
+    requires { ⌜ now table ≡ tableOf state ⌝ }
     requires { ⌜ allTasks (state .n) (now schedule) ≡ true ⌝ }
     requires { ⌜ (turns ≤ length (now schedule)) × (turns ≤ maxTurns) ⌝ }
     requires { ⌜ 2 * turns ≤ length (now log) ⌝ }
@@ -114,32 +139,38 @@ fn turns(mut state: State, schedule: &[u8], turns: usize, end: Ending, log: &mut
     let mut i = 0;
     while i < turns {
         let task = schedule[i] as usize;
-        let line = state.tasks[task].line;
-        let answer = state.step(task);
-        state = answer.state;
-        let outcome = answer.outcome;
+        let own = state.tasks[task];
+        let looked = own.looked as usize;
+        let seen = state.tasks[looked];
+        let shared = Shared {
+            kind: state.kind,
+            n: state.n,
+            modulus: state.modulus,
+            arrivals: state.arrivals,
+            sense: state.sense,
+        };
+        let effect = dispatch::effect_of(shared, table, task, own, seen);
+        let act = effect.act;
+        let outcome = Outcome::of(act);
         let Outcome::Made(how) = outcome else {
-            return Ran {
-                state,
-                ending: Ending::Stopped(reason_of(outcome)),
-                turns: i,
-                moves,
-                waits,
-            };
+            let ending = Ending::Stopped(reason_of(outcome));
+            return report(state, ending, i, moves, waits);
         };
         let moved = move_byte(how);
-        write_row(&mut log[2 * i..], line, moved);
+        write_row(&mut log[2 * i..], own.line, moved);
         tally(&mut moves, task, moved);
         tally(&mut waits, task, 1 - moved);
+        let next = effect.task;
+        let write = effect.write;
+        state.tasks[task] = next;
+        state.arrivals = write.arrivals(state.arrivals);
+        state.sense = write.sense(state.sense);
+        let place = write.place(task);
+        let there = state.tasks[place];
+        state.tasks[place] = write.task(there);
         i += 1;
     }
-    Ran {
-        state,
-        ending: end,
-        turns,
-        moves,
-        waits,
-    }
+    report(state, end, turns, moves, waits)
 }
 
 // The answer of a run that is refused as a whole.
@@ -176,11 +207,8 @@ pub fn run(state: State, schedule: &[u8], allowance: usize, log: &mut [u8]) -> R
     if log.len() < 2 * count {
         return refused(state, 10, 0);
     }
-    turns(
-        state,
-        schedule,
-        count,
-        ended(allowance, schedule.len()),
-        log,
-    )
+    let parents = state.parents;
+    let n = state.n as usize;
+    let end = ended(allowance, schedule.len());
+    turns(state, &parents[..n], schedule, count, end, log)
 }

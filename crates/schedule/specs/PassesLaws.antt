@@ -3,7 +3,7 @@
 use mathlib.Core.Path.{_≡_, refl, sym, ap, _∙_}
 use mathlib.Core.Logic.{_↔_}
 use mathlib.Core.Bool.{Bool, true, false, true≢false}
-use mathlib.Core.List.{List, [], _∷_, _++_, append-assoc, append-nil, flatten}
+use mathlib.Core.List.{List, [], _∷_, _++_, append-assoc, append-nil, flatten, map}
 use Prim.Native.Nat.{ℕ, zero, suc, _≤_, _<_}
 use native.Mathlib.Decide.{decLt}
 use native.Mathlib.Omega.{arith}
@@ -187,3 +187,16 @@ all-known n ts = (
     go : ((i : ℕ) → i < length ts → getD ts i 0 < n) → Dec (unknownAt n ts < length ts) → unknownAt n ts ≡ length ts
     go h (yes l) = omega (arith, h (unknownAt n ts) l, unknown-at n ts l)
     go h (no l) = omega (arith, unknown-le n ts)
+
+-- no more passes than turns
+pub passes-few : (n : ℕ) (since ts : List ℕ) → length (passesFrom n since ts) ≤ length ts
+unfolding passesFrom
+passes-few n since [] = omega arith
+passes-few n since (t ∷ ts) =
+    next-turn n since t ts (λ ps. length ps ≤ suc (length ts)) (λ e. omega (arith, passes-few n [] ts)) (λ e. omega (arith, passes-few n (since ++ t ∷ []) ts))
+
+-- turns that compare with N as others do have their first unknown one at the same place
+pub unknown-alike : (f : ℕ → ℕ) (n : ℕ) → ((x : ℕ) → ltb (f x) n ≡ ltb x n) → (ts : List ℕ) → unknownAt n (map f ts) ≡ unknownAt n ts
+unfolding unknownAt
+unknown-alike f n same [] = refl
+unknown-alike f n same (t ∷ ts) = rw (same t, unknown-alike f n same ts)

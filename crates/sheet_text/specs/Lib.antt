@@ -4,8 +4,6 @@ pub mod Print
 pub mod Cut
 pub mod Steps
 pub mod ReadLaws
-pub mod TurnsLaws
 pub mod PrintLaws
 pub mod StepsLaws
-pub mod DoneLaws
 pub mod SheetLaws

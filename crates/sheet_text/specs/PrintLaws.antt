@@ -16,15 +16,18 @@ use Rattle.machine.specs.declared.State.{State}
 use Rattle.machine.specs.Setters.{taskAt}
 use Rattle.machine.specs.Range.{lastLine, Valid}
 use Rattle.machine.specs.Least.{least}
-use Rattle.machine.specs.TurnLaws.{by-test, turn-constants}
-use Rattle.machine.specs.RangeLaws.{InRange, range}
+use Rattle.bitset.specs.ChoiceLaws.{by-test}
+use Rattle.machine.specs.TurnLaws.{turn-constants}
+use Rattle.machine.specs.RangeLaws.{line-18, InRange, range}
 use Rattle.machine.specs.KeepLaws.{turn-valid}
 use Rattle.machine.specs.LeastLaws.{least-le}
 use Rattle.runner.specs.Trace.{traceOf}
 use Rattle.runner.specs.Run.{movesIn, waitsIn}
 use Rattle.sheet_text.specs.Print.{decimalIn, decimal, spaced, rowWith, rowOf, rowsBy, refusedWord, placeWord, tableWith, refusalOf}
 use Rattle.sheet_text.specs.Steps.{tableFrom}
-use Rattle.sheet_text.specs.TurnsLaws.{trace-keeps, moves-few, waits-few, passes-few}
+use Rattle.schedule.specs.PassesLaws.{passes-few}
+use Rattle.runner.specs.TraceLaws.{trace-keeps}
+use Rattle.runner.specs.RunLaws.{moves-few, waits-few}
 
 -- ---- a number in decimal
 
@@ -119,13 +122,6 @@ rows-same f g zero h = refl
 rows-same f g (suc n) h = rw (rows-same f g n (λ q l. h q (omega arith)), h n (omega arith))
 
 -- ---- what is printed fits the page
-
--- "Lines: from 11 to .. 18"
-line-18 : (kind : ℕ) → lastLine kind ≤ 18
-line-18 kind = by-test B (eqb kind 0) (λ _. omega arith) (λ _. by-test B (eqb kind 1) (λ _. omega arith) (λ _. by-test B (eqb kind 2) (λ _. omega arith) (λ _. omega arith)))
-  where
-    B : ℕ → Type 0
-    B line = line ≤ 18
 
 module _ (s : State) (ts : List ℕ) (ok : Valid s) (few : length ts ≤ 65536) where
   ended : InRange (traceOf s ts .state)

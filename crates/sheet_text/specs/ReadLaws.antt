@@ -12,14 +12,12 @@ use lib.Seq.{ext-getD}
 use borrow.Author.Tests.{lt-ltb, le-ltb, ne-eqb}
 use Rattle.bitset.specs.Choice.{pick}
 use Rattle.schedule.specs.Passes.{unknownAt, allTasks}
-use Rattle.schedule.specs.PassesLaws.{all-known}
-use Rattle.bitset.specs.Tasks.{isCount}
-use Rattle.bitset.specs.SetLaws.{is-count}
-use Rattle.machine.specs.Fresh.{Inputs, isKind, modulusOk, tableReason, freshReason}
-use Rattle.machine.specs.FreshLaws.{Accepted, accepted-inputs}
-use Rattle.machine.specs.TurnLaws.{by-test}
-use Rattle.parents.specs.Parents.{parentOf, entriesOk, checkOf}
-use Rattle.parents.specs.ParentsLaws.{accepted}
+use Rattle.schedule.specs.PassesLaws.{all-known, unknown-alike}
+use Rattle.bitset.specs.ChoiceLaws.{by-test}
+use Rattle.parents.specs.Parents.{checkOf}
+use Rattle.parents.specs.ParentsLaws.{entries-below, check-alike}
+use Rattle.machine.specs.Fresh.{Inputs, withParents, freshReason}
+use Rattle.machine.specs.FreshLaws.{Accepted, accepted-inputs, reason-alike}
 use Rattle.sheet_text.specs.Read.{isDigit, isSpace, ended, numbersFrom}
 use Rattle.sheet_text.specs.Steps.{low}
 
@@ -74,9 +72,7 @@ low-list xs h =
     (λ i l. List·getD-map low xs i 0 ∙ low-same (getD xs i 0) (h i (rw length-map at l)))
 
 pub low-unknown : (n : ℕ) (ts : List ℕ) → n ≤ 255 → unknownAt n (map low ts) ≡ unknownAt n ts
-unfolding unknownAt
-low-unknown n [] h = refl
-low-unknown n (t ∷ ts) h = rw (low-below t n h, low-unknown n ts h)
+low-unknown n ts h = unknown-alike low n (λ x. low-below x n h) ts
 
 -- turns that are tasks are their own bytes
 pub low-turns : (n : ℕ) (ts : List ℕ) → n ≤ 255 → allTasks n ts ≡ true → map low ts ≡ ts
@@ -84,51 +80,27 @@ low-turns n ts h e = low-list ts (λ i l. omega (arith, all-known n ts .0 e i l)
 
 -- ---- the parents
 
-low-parent : (table : List ℕ) (q : ℕ) → parentOf (map low table) q ≡ low (parentOf table q)
-low-parent table q = List·getD-map low table q 0
-
 low-zero : (x : ℕ) → eqb (low x) 0 ≡ eqb x 0
 low-zero zero = refl
 low-zero (suc x) = ne-eqb (low (suc x)) 0 (λ e. omega arith) ∙ sym (ne-eqb (suc x) 0 (λ e. omega arith))
 
-low-entries : (table : List ℕ) (n : ℕ) → n ≤ 256 → entriesOk (map low table) n ≡ entriesOk table n
-unfolding entriesOk
-low-entries table zero h = refl
-low-entries table (suc q) h = rw (low-entries table q (omega arith), low-parent table q, low-zero (parentOf table q), low-below (parentOf table q) q (omega arith))
-
-low-check : (table : List ℕ) (n : ℕ) → n ≤ 256 → checkOf (map low table) n ≡ checkOf table n
-unfolding checkOf
-low-check table n h = rw (length-map table low, low-entries table n h)
-
 -- the inputs with the bytes of the parents
 abbrev pub lowInputs : Inputs → Inputs
-lowInputs i = record { kind = i .kind; n = i .n; modulus = i .modulus; parents = map low (i .parents) }
+lowInputs i = withParents i (map low (i .parents))
 
 pub low-reason : (i : Inputs) → freshReason (lowInputs i) ≡ freshReason i
-unfolding freshReason
-low-reason i = go (isCount (i .n)) refl
-  where
-    go : (b : Bool) → isCount (i .n) ≡ b
-        → pick (isKind (i .kind)) (pick b (pick (modulusOk (i .kind) (i .modulus)) (tableReason (i .kind) (i .n) (map low (i .parents))) 4) 3) 2
-        ≡ pick (isKind (i .kind)) (pick b (pick (modulusOk (i .kind) (i .modulus)) (tableReason (i .kind) (i .n) (i .parents)) 4) 3) 2
-    go true e = rw (low-check (i .parents) (i .n) (omega (arith, is-count (i .n) e)), length-map (i .parents) low)
-    go false e = refl
-
--- the entries of an accepted table are tasks
-table-tasks : (table : List ℕ) (n q : ℕ) → checkOf table n ≡ 0 → q < length table → getD table q 0 < n
-table-tasks table n zero e l = let t = accepted table n e in omega (arith, t .root, t .long)
-table-tasks table n (suc q) e l = let t = accepted table n e in omega (arith, t .lower (suc q) (omega arith) (omega (arith, t .long)), t .long)
+low-reason i =
+    reason-alike i (map low (i .parents))
+    (λ few. rw (check-alike low (i .n) low-zero (λ x q h. low-below x q (omega arith)) (i .parents) refl, length-map (i .parents) low))
 
 -- parents that are accepted are their own bytes
 pub low-inputs : (i : Inputs) → freshReason i ≡ 0 → lowInputs i ≡ i
-low-inputs i e =
-    ap (λ (ps : List ℕ). record { kind = i .kind; n = i .n; modulus = i .modulus; parents = ps })
-    (low-list (i .parents) (λ q l. go (eqb (i .kind) 3) (a .table) q l))
+low-inputs i e = ap (withParents i) (low-list (i .parents) (λ q l. go (eqb (i .kind) 3) (a .table) q l))
   where
     a : Accepted i
     a = accepted-inputs i e
 
     go : (b : Bool) → pick b (checkOf (i .parents) (i .n)) (pick (eqb (length (i .parents)) 0) 0 5) ≡ 0 → (q : ℕ) → q < length (i .parents)
         → getD (i .parents) q 0 ≤ 255
-    go true t q l = omega (arith, table-tasks (i .parents) (i .n) q t l, a .few)
+    go true t q l = omega (arith, entries-below (i .parents) (i .n) q t l, a .few)
     go false t q l = absurd (omega (arith, rw (ne-eqb (length (i .parents)) 0 (λ z. omega arith)) at t))

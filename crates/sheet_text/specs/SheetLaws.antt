@@ -11,18 +11,18 @@ use lib.ListN.{length, length-drop}
 use borrow.Author.Tests.{leb-true, eqb-true}
 use Rattle.schedule.specs.Passes.{unknownAt, allTasks}
 use Rattle.schedule.specs.PassesLaws.{all-known}
-use Rattle.machine.specs.declared.Task.{Task}
-use Rattle.machine.specs.Fresh.{freshReason, freshState}
+use Rattle.lines.specs.declared.Task.{Task}
+use Rattle.machine.specs.Fresh.{freshReason, freshState, freshTask}
 use Rattle.machine.specs.FreshLaws.{fresh-at, fresh-valid, fresh-accepted}
-use Rattle.machine.specs.TurnLaws.{by-test}
+use Rattle.bitset.specs.ChoiceLaws.{by-test}
 use Rattle.runner.specs.Trace.{nothing}
-use Rattle.increment.specs.Kept.{fresh}
+use Rattle.guarantee.specs.Calls.{Reached, fresh}
+use Rattle.guarantee.specs.Done.{turns-done}
 use Rattle.sheet_text.specs.Read.{numbersFrom, maxText, Five, Reading, five, refused, parentCount, fiveOf, readOption, readOf}
 use Rattle.sheet_text.specs.Print.{traceIn, tableOf, printed, sheetOf}
 use Rattle.sheet_text.specs.Steps.{tableFrom}
 use Rattle.sheet_text.specs.ReadLaws.{numbers-few}
 use Rattle.sheet_text.specs.PrintLaws.{refusal-length, table-fits}
-use Rattle.sheet_text.specs.DoneLaws.{turns-done}
 
 -- what an accepted text says: 2 to 6 and 9 refuse nothing, and there are few turns
 pub record Accepted (f : Five) : Type 0 where
@@ -66,9 +66,8 @@ accepted text =
 pub all-done : (text : List ℕ) (f : Five) → readOf text ≡ five f → traceIn f .stop ≡ nothing
 all-done text f e =
     rw (fresh-accepted (f .inputs) (a .reason))
-    (turns-done (freshState (f .inputs)) (f .schedule) 0
-    (record { valid = fresh-valid (f .inputs) (a .reason); inv = fresh (f .inputs) (a .reason) })
-    (λ q h. le-of-eq (ap (λ (t : Task). t .count) (fresh-at (f .inputs .n) q h)))
+    (turns-done (freshState (f .inputs)) (f .schedule) 0 (subst Reached (fresh-accepted (f .inputs) (a .reason)) (fresh (f .inputs) (a .reason)))
+    (λ q h. le-of-eq (ap (λ (t : Task). t .count) (fresh-at (f .inputs .n) q (freshTask (f .inputs)) h)))
     (omega (arith, a .few)) (all-known (f .inputs .n) (f .schedule) .0 (a .tasks)))
   where
     a : Accepted f

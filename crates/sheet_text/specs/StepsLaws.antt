@@ -20,14 +20,14 @@ use Rattle.machine.specs.Least.{leastUpTo, least}
 use Rattle.runner.specs.declared.Ran.{Ran}
 use Rattle.runner.specs.Trace.{Trace, traceOf}
 use Rattle.runner.specs.Run.{movesIn, waitsIn, unstopped, runReason, ranOf, runOf}
-use Rattle.runner.specs.RunLaws.{table-at}
+use Rattle.bitset.specs.TableLaws.{table-at}
 use Rattle.sheet_text.specs.declared.Cut.{Cut}
 use Rattle.sheet_text.specs.Cut.{cutOf}
 use Rattle.sheet_text.specs.Read.{Five, five, refused, readNumbers, checked, fiveOf}
 use Rattle.sheet_text.specs.Print.{rowOf, rowsBy, tableWith, refusalOf, tableOf, printed}
 use Rattle.sheet_text.specs.Steps.{low, ranRow, tableFrom, sheetFrom}
 use Rattle.sheet_text.specs.ReadLaws.{lowInputs, low-reason, low-inputs, low-unknown, low-turns}
-use Rattle.sheet_text.specs.TurnsLaws.{passes-few}
+use Rattle.schedule.specs.PassesLaws.{passes-few}
 use Rattle.sheet_text.specs.PrintLaws.{rows-same, same-n}
 
 -- ---- the parts of the bytes: parents, then turns
@@ -98,7 +98,7 @@ module _ (s : State) (ts : List ℕ) (ok : Valid s) (few : length ts ≤ 32768) 
         same : (q : ℕ) → q < s .n → ranRow (ranOf t (unstopped (length ts) (length ts))) q ≡ rowOf t q
         same q l =
             let h : q < 64 = omega (arith, range s ok .few) in
-            rw (table-at 64 (movesIn (t .made)) q h, table-at 64 (waitsIn (t .made)) q h)
+            rw (table-at 64 (movesIn (t .made)) q 0 h, table-at 64 (waitsIn (t .made)) q 0 h)
 
     pub all-tasks : sheetFrom s ts ≡ tableFrom s ts
     unfolding sheetFrom

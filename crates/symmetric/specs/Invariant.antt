@@ -3,10 +3,8 @@
 use mathlib.Core.Path.{_≡_}
 use Prim.Native.Nat.{ℕ, _+_, _%_, _≤_, _<_}
 use Rattle.bitset.specs.Set.{bit}
-use Rattle.machine.specs.declared.Task.{Task}
-use Rattle.machine.specs.declared.State.{State}
-use Rattle.machine.specs.Setters.{taskAt}
-use Rattle.machine.specs.Range.{Valid}
+use Rattle.lines.specs.declared.Task.{Task}
+use Rattle.barrier.specs.View.{View}
 
 -- what holds of each task t, where R is the modulus
 pub record Alone (R : ℕ) (t : Task) : Type 0 where
@@ -26,8 +24,6 @@ pub record Beside (t : Task) (r c : ℕ) : Type 0 where
   -- Iq5: t is at most one ahead of r
   pub near : t .count ≤ c + 1
 
-pub record Inv (s : State) : Type 0 where
-  pub valid : Valid s
-  pub kind : s .kind ≡ 0
-  pub alone : (q : ℕ) → q < s .n → Alone (s .modulus) (taskAt s q)
-  pub beside : (q r : ℕ) → q < s .n → r < s .n → Beside (taskAt s q) r (taskAt s r .count)
+pub record Inv (v : View) : Type 0 where
+  pub alone : (q : ℕ) → q < v .n → Alone (v .modulus) (v .task q)
+  pub beside : (q r : ℕ) → q < v .n → r < v .n → Beside (v .task q) r (v .task r .count)

@@ -1,69 +1,53 @@
 -- While the least count is below its limit, each task that has it can move.
 use mathlib.Core.Path.{_≡_, refl}
-use mathlib.Core.Bool.{true, _||_}
-use mathlib.Core.Logic.{_≢_}
 use Prim.Native.Nat.{ℕ, _≤_, _<_}
-use native.Mathlib.Decide.{ℕ-discrete}
 use native.Mathlib.Omega.{arith}
 use lib.Dec.{eqb}
 use borrow.Author.Tests.{ne-eqb, lt-ltb}
+use Rattle.bitset.specs.ChoiceLaws.{by-test}
+use Rattle.lines.specs.declared.Task.{Task}
+use Rattle.lines.specs.declared.Effect.{Effect}
+use Rattle.lines.specs.declared.Act.the-variants.{Moves}
+use Rattle.lines.specs.Common.{maxCount}
+use Rattle.lines.specs.LineLaws.{by-symmetric}
 use Rattle.machine.specs.declared.State.{State}
-use Rattle.machine.specs.declared.Effect.{Effect}
 use Rattle.machine.specs.Setters.{taskAt}
-use Rattle.machine.specs.Range.{maxCount}
-use Rattle.machine.specs.Symmetric.{symmetricLine}
-use Rattle.machine.specs.Turn.{effectOf, isMoved}
-use Rattle.machine.specs.TurnLaws.{by-test}
-use Rattle.machine.specs.RangeLaws.{TaskRange, range, below}
+use Rattle.machine.specs.Turn.{effectOf}
+use Rattle.machine.specs.TurnLaws.{effect-0}
+use Rattle.machine.specs.RangeLaws.{TaskRange, range}
+use Rattle.machine.specs.KeepLaws.{looked-known}
 use Rattle.machine.specs.Least.{least}
 use Rattle.machine.specs.LeastLaws.{least-le, least-attained}
-use Rattle.barrier.specs.Barrier.{Able}
+use Rattle.barrier.specs.Barrier.{Able, Holds}
 use Rattle.symmetric.specs.Invariant.{Inv}
 use Rattle.symmetric.specs.Tags.{ahead-tag}
 
--- ---- when each line can move
-
-module _ (s : State) (p : ℕ) (kind : s .kind ≡ 0) where
-  move-11 : taskAt s p .line ≡ 11 → isMoved (effectOf s p .outcome) ≡ true
-  unfolding effectOf symmetricLine
-  move-11 l = rw (kind, l)
-
-  move-12 : taskAt s p .line ≡ 12 → taskAt s p .count < maxCount → isMoved (effectOf s p .outcome) ≡ true
-  unfolding effectOf symmetricLine
-  move-12 l low = rw (kind, l, lt-ltb (taskAt s p .count) maxCount low)
-
-  move-13 : taskAt s p .line ≡ 13 → isMoved (effectOf s p .outcome) ≡ true
-  unfolding effectOf symmetricLine
-  move-13 l = rw (kind, l) (by-test (λ (e : Effect). isMoved (e .outcome) ≡ true) (eqb (taskAt s p .list) 0) (λ _. refl) (λ _. refl))
-
-  move-14 : taskAt s p .line ≡ 14 → taskAt s (taskAt s p .looked) .tag ≢ taskAt s p .old → isMoved (effectOf s p .outcome) ≡ true
-  unfolding effectOf symmetricLine
-  move-14 l d = rw (kind, l, ne-eqb (taskAt s (taskAt s p .looked) .tag) (taskAt s p .old) d)
-
--- ---- a task with the least count
-
-least-moves : (s : State) (p : ℕ) → Inv s → p < s .n → ((r : ℕ) → r < s .n → taskAt s p .count ≤ taskAt s r .count) → taskAt s p .count < maxCount
-    → isMoved (effectOf s p .outcome) ≡ true
-least-moves s p i h lowest low = go (ℕ-discrete (taskAt s p .line) 11) (ℕ-discrete (taskAt s p .line) 12) (ℕ-discrete (taskAt s p .line) 13)
+-- a task with the least count moves at every line
+least-moves : (s : State) (p : ℕ) → Holds 0 Inv s → p < s .n → ((r : ℕ) → r < s .n → taskAt s p .count ≤ taskAt s r .count) → taskAt s p .count < maxCount
+    → effectOf s p .act ≡ Moves
+least-moves s p i h lowest low =
+    rw (effect-0 s p (i .kind))
+    (by-symmetric Acts (t .line) t (λ out. absurd (omega (arith, out (mine .line-from), last))) (λ _. refl) (s .n) (s .modulus) (taskAt s (t .looked) .tag)
+    (λ l. rw (lt-ltb (t .count) maxCount low))
+    (λ l. by-test Acts (eqb (t .list) 0) (λ _. refl) (λ _. refl))
+    (λ l. rw (ne-eqb (taskAt s (t .looked) .tag) (t .old) (ahead-tag s i p (t .looked) h known (omega arith) (lowest (t .looked) known)))))
   where
-    mine : TaskRange s p (taskAt s p)
+    t : Task
+    t = taskAt s p
+
+    Acts : Effect → Type 0
+    Acts e = e .act ≡ Moves
+
+    mine : TaskRange s p t
     mine = range s (i .valid) .tasks p h
 
-    last : taskAt s p .line ≤ 14
+    last : t .line ≤ 14
     last = rw (i .kind) at (mine .line-to)
 
-    known : taskAt s p .looked < s .n
-    known = below (eqb (s .kind) 0 || eqb (s .kind) 3) (s .n) (taskAt s p .looked) (rw (i .kind)) (mine .looked)
+    known : t .looked < s .n
+    known = looked-known s p (i .valid) h
 
-    go : Dec (taskAt s p .line ≡ 11) → Dec (taskAt s p .line ≡ 12) → Dec (taskAt s p .line ≡ 13) → isMoved (effectOf s p .outcome) ≡ true
-    go (yes l) b c = move-11 s p (i .kind) l
-    go (no x) (yes l) c = move-12 s p (i .kind) l low
-    go (no x) (no y) (yes l) = move-13 s p (i .kind) l
-    go (no x) (no y) (no z) =
-        move-14 s p (i .kind) (omega (arith, last, mine .line-from))
-        (ahead-tag s i p (taskAt s p .looked) h known (omega (arith, mine .line-from)) (lowest (taskAt s p .looked) known))
-
-pub someone-moves : (s : State) → Inv s → least s < maxCount → (p : ℕ) × Able s p
-someone-moves s i low =
+pub someone : (s : State) → Holds 0 Inv s → least s < maxCount → (p : ℕ) × Able s p
+someone s i low =
     let a = least-attained s (range s (i .valid) .some) in
     (a .0, (a .1, least-moves s (a .0) i (a .1) (λ r hr. omega (arith, a .2, least-le s r hr)) (omega (arith, a .2))))

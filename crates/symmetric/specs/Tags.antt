@@ -10,9 +10,10 @@ use Rattle.machine.specs.declared.State.{State}
 use Rattle.machine.specs.Setters.{taskAt}
 use Rattle.machine.specs.RangeLaws.{InRange, range, below, modulus-3}
 use Rattle.symmetric.specs.Modulo.{next-injective, next-other, next-next-other}
+use Rattle.barrier.specs.Barrier.{Holds}
 use Rattle.symmetric.specs.Invariant.{Inv}
 
-module _ (s : State) (i : Inv s) where
+module _ (s : State) (i : Holds 0 Inv s) where
   in-range : InRange s
   in-range = range s (i .valid)
 
@@ -23,10 +24,10 @@ module _ (s : State) (i : Inv s) where
   -- the tag of a task one ahead is the next
   next-tag : (q r : ℕ) → q < s .n → r < s .n → taskAt s q .count + 1 ≡ taskAt s r .count → (taskAt s q .tag + 1) % s .modulus ≡ taskAt s r .tag
   next-tag q r hq hr e =
-      ap (λ (x : ℕ). (x + 1) % s .modulus) (i .alone q hq .tag)
+      ap (λ (x : ℕ). (x + 1) % s .modulus) (i .inv .alone q hq .tag)
       ∙ mod-add-mod (taskAt s q .count) (s .modulus) 1
       ∙ ap (λ (x : ℕ). x % s .modulus) e
-      ∙ sym (i .alone r hr .tag)
+      ∙ sym (i .inv .alone r hr .tag)
 
   old-below : (q : ℕ) → q < s .n → taskAt s q .old < s .modulus
   old-below q h = below (eqb (s .kind) 0) (s .modulus) (taskAt s q .old) (rw (i .kind)) (in-range .tasks q h .old)
@@ -37,7 +38,7 @@ module _ (s : State) (i : Inv s) where
       next-injective (s .modulus) (taskAt s r .tag) (taskAt s q .old)
       (below (eqb (s .kind) 0) (s .modulus) (taskAt s r .tag) (rw (i .kind)) (in-range .tasks r hr .tag))
       (old-below q hq)
-      (next-tag r q hr hq (omega (arith, i .beside q r hq hr .near)) ∙ i .alone q hq .old l)
+      (next-tag r q hr hq (omega (arith, i .inv .beside q r hq hr .near)) ∙ i .inv .alone q hq .old l)
 
   -- and the tag of any other is not: it is the next of the old one, or the one after that
   pub ahead-tag : (q r : ℕ) → q < s .n → r < s .n → 13 ≤ taskAt s q .line → taskAt s q .count ≤ taskAt s r .count → taskAt s r .tag ≢ taskAt s q .old
@@ -46,9 +47,9 @@ module _ (s : State) (i : Inv s) where
       go : Dec (taskAt s r .count ≡ taskAt s q .count) → ⊥
       go (yes same) =
           next-other (s .modulus) (taskAt s q .old) three (old-below q hq)
-          (sym (i .alone q hq .old l) ∙ i .alone q hq .tag ∙ ap (λ (x : ℕ). x % s .modulus) (sym same) ∙ sym (i .alone r hr .tag) ∙ e)
+          (sym (i .inv .alone q hq .old l) ∙ i .inv .alone q hq .tag ∙ ap (λ (x : ℕ). x % s .modulus) (sym same) ∙ sym (i .inv .alone r hr .tag) ∙ e)
       go (no other) =
           next-next-other (s .modulus) (taskAt s q .old) three (old-below q hq)
-          (ap (λ (x : ℕ). (x + 1) % s .modulus) (sym (i .alone q hq .old l))
-          ∙ next-tag q r hq hr (omega (arith, i .beside r q hr hq .near))
+          (ap (λ (x : ℕ). (x + 1) % s .modulus) (sym (i .inv .alone q hq .old l))
+          ∙ next-tag q r hq hr (omega (arith, i .inv .beside r q hr hq .near))
           ∙ e)

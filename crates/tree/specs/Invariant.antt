@@ -9,10 +9,8 @@ use lib.Dec.{eqb, leb}
 use Rattle.bitset.specs.Choice.{pick}
 use Rattle.bitset.specs.Set.{bit, memberOf}
 use Rattle.parents.specs.Parents.{parentOf}
-use Rattle.machine.specs.declared.Task.{Task}
-use Rattle.machine.specs.declared.State.{State}
-use Rattle.machine.specs.Setters.{taskAt}
-use Rattle.machine.specs.Range.{tableOf, Valid}
+use Rattle.lines.specs.declared.Task.{Task}
+use Rattle.barrier.specs.View.{View}
 
 -- ---- how a task stands (Iq1, Iq6, Jq1)
 
@@ -72,8 +70,6 @@ pub record Standing (n : ℕ) (table : List ℕ) (c : ℕ) (t : ℕ → Task) : 
   -- every task but the root is a child, and is what its parent asks
   pub child : (r : ℕ) → 0 < r → r < n → Meets c (t r) (want c (t (parentOf table r)) r)
 
-pub record Inv (s : State) : Type 0 where
-  pub valid : Valid s
-  pub kind : s .kind ≡ 3
+pub record Inv (v : View) : Type 0 where
   pub round : ℕ
-  pub standing : Standing (s .n) (tableOf s) round (taskAt s)
+  pub standing : Standing (v .n) (v .table) round (v .task)

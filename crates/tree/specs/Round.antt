@@ -1,38 +1,33 @@
 -- How far a task is in its round: a round of a task with k children has 3k + 7 moves, and each move takes its own task one on.
 use mathlib.Core.Path.{_≡_}
-use mathlib.Core.Bool.{true, false≢true, _||_}
-use mathlib.Core.Logic.{_≢_}
+use mathlib.Core.List.{List}
 use Prim.Native.Nat.{ℕ, _+_, _-_, _*_, _<_}
 use native.Mathlib.Omega.{arith}
-use lib.Dec.{eqb, ltb}
-use lib.Count.{ones-ones}
-use borrow.Author.Tests.{eqb-true, eqb-false}
+use lib.Dec.{eqb}
 use Rattle.bitset.specs.Choice.{pick}
+use Rattle.bitset.specs.ChoiceLaws.{by-test}
 use Rattle.bitset.specs.Set.{bit, withoutOf, sizeOf}
-use Rattle.bitset.specs.SetLaws.{without-size}
+use Rattle.bitset.specs.SetLaws.{size-zero, without-size}
 use Rattle.parents.specs.Parents.{childrenOf}
-use Rattle.machine.specs.declared.Task.{Task}
+use Rattle.lines.specs.declared.Task.{Task}
 use Rattle.machine.specs.declared.State.{State}
-use Rattle.machine.specs.declared.Effect.{Effect}
 use Rattle.machine.specs.Setters.{taskAt}
-use Rattle.machine.specs.Range.{tableOf, maxCount}
-use Rattle.machine.specs.Turn.{effectOf, turnOf, isMoved}
-use Rattle.machine.specs.TurnLaws.{by-test, turn-constants}
-use Rattle.barrier.specs.Barrier.{Able}
+use Rattle.machine.specs.Range.{tableOf}
+use Rattle.machine.specs.Turn.{effectOf}
+use Rattle.barrier.specs.Barrier.{Able, Holds}
 use Rattle.tree.specs.Invariant.{Inv}
-use Rattle.tree.specs.ByLine.{by-line}
-use Rattle.tree.specs.Same.{SameRound, turn-own, turn-other}
-use Rattle.tree.specs.TreeRange.{list-size, chosen}
+use Rattle.tree.specs.TreeRange.{list-size}
+use Rattle.tree.specs.Lines.{by-line}
 
 -- the number of children of task q
-abbrev pub children : State → ℕ → ℕ
-children s q = sizeOf (childrenOf (tableOf s) q)
+abbrev pub children : List ℕ → ℕ → ℕ
+children table q = sizeOf (childrenOf table q)
 
-abbrev pub L : State → ℕ → ℕ
-L s q = 3 * children s q + 7
+abbrev pub L : ℕ → List ℕ → ℕ → ℕ
+L n table q = 3 * children table q + 7
 
 -- the moves since the count last rose, at 15, of a task with k children at this line with j tasks on its list
-abbrev pub offsetAt : ℕ → ℕ → ℕ → ℕ
+abbrev offsetAt : ℕ → ℕ → ℕ → ℕ
 offsetAt k line j =
     pick (eqb line 16) 0
     (pick (eqb line 17) 1
@@ -43,10 +38,10 @@ offsetAt k line j =
     (pick (eqb line 14) (k + 6 + 2 * (k - j))
     (3 * k + 6)))))))
 
-abbrev pub offset : State → ℕ → ℕ
-offset s q = offsetAt (children s q) (taskAt s q .line) (sizeOf (taskAt s q .list))
+abbrev pub offset : ℕ → List ℕ → ℕ → Task → ℕ
+offset n table q t = offsetAt (children table q) (t .line) (sizeOf (t .list))
 
-pub within : (s : State) → Inv s → (q : ℕ) → q < s .n → offset s q < L s q
+pub within : (s : State) → Holds 3 Inv s → (q : ℕ) → q < s .n → offset (s .n) (tableOf s) q (taskAt s q) < L (s .n) (tableOf s) q
 within s i q h =
     by-test Under (eqb line 16) (λ _. omega arith)
     (λ _. by-test Under (eqb line 17) (λ _. omega arith)
@@ -60,51 +55,38 @@ within s i q h =
     line = taskAt s q .line
 
     Under : ℕ → Type 0
-    Under x = x < L s q
+    Under x = x < L (s .n) (tableOf s) q
 
-pub same-L : (s : State) (p q : ℕ) → L (turnOf s p .state) q ≡ L s q
-same-L s p q = let c = turn-constants s p in rw (c .n, c .parents)
+-- how far a task that is t, with k children, is
+abbrev placed : ℕ → Task → ℕ
+placed k t = t .count * (3 * k + 7) + offsetAt k (t .line) (sizeOf (t .list))
 
--- count * L + offset, of a task t with k children
-abbrev place : ℕ → Task → ℕ
-place k t = t .count * (3 * k + 7) + offsetAt k (t .line) (sizeOf (t .list))
+module _ (s : State) (p : ℕ) (i : Holds 3 Inv s) (able : Able s p) where
+  -- one task less on the list
+  fewer : (r : ℕ) → bit (taskAt s p .list) r ≡ 1
+      → children (tableOf s) p - sizeOf (withoutOf (taskAt s p .list) r) ≡ children (tableOf s) p - sizeOf (taskAt s p .list) + 1
+  fewer r on = omega (arith, list-size s (i .valid) (i .kind) p (able .0), without-size (taskAt s p .list) r on)
 
-module _ (s : State) (p : ℕ) (i : Inv s) (known : p < s .n) where
-  abbrev Rises : Effect → Type 0
-  Rises e = isMoved (e .outcome) ≡ true → place (children s p) (e .task) ≡ place (children s p) (taskAt s p) + 1
+  -- the count rises at 15 alone
+  pub counts : effectOf s p .task .count ≡ taskAt s p .count + pick (eqb (taskAt s p .line) 15) 1 0
+  counts =
+      by-line (λ e. e .task .count ≡ taskAt s p .count + pick (eqb (taskAt s p .line) 15) 1 0) s p (i .valid) (i .kind) able
+      (λ l. rw l (omega arith)) (λ l. rw l (omega arith)) (λ l z. rw l (omega arith)) (λ k l on. rw l (omega arith)) (λ l up. rw l (omega arith))
+      (λ l z. rw l (omega arith)) (λ l ne. rw l (omega arith)) (λ l w. rw l (omega arith)) (λ l. rw l (omega arith)) (λ l z. rw l (omega arith))
+      (λ k l on. rw l (omega arith))
 
-  rises : Rises (effectOf s p)
-  rises =
-      by-line Rises s p (i .valid) (i .kind) known
-      (λ e _. rw e (omega arith))
-      (λ e _. rw e (omega arith))
-      (λ e. by-test Rises (eqb (taskAt s p .list) 0)
-      (λ z _. rw (e, eqb-true (taskAt s p .list) 0 z, ones-ones 0) (omega arith))
-      (λ z _. rw e (omega arith)))
-      (λ e. by-test Rises (eqb (taskAt s (taskAt s p .looked) .flag) 1)
-      (λ _ _. rw e (omega (arith, taken (taskAt s p .looked) (i .standing .looks p known e))))
-      (λ _ w. absurd (false≢true w)))
-      (λ e. by-test Rises (ltb (taskAt s p .count) maxCount) (λ _ _. rw e (omega arith)) (λ _ w. absurd (false≢true w)))
-      (λ e. by-test Rises (eqb p 0 || eqb (taskAt s p .flag) 0) (λ _ _. rw e (omega arith)) (λ _ w. absurd (false≢true w)))
-      (λ e _. rw e (omega arith))
-      (λ e. by-test Rises (eqb (taskAt s p .list) 0)
-      (λ z _. rw (e, eqb-true (taskAt s p .list) 0 z, ones-ones 0) (omega arith))
-      (λ z _. rw e (omega (arith, taken _ (chosen s (i .valid) (i .kind) p known (eqb-false (taskAt s p .list) 0 z))))))
-    where
-      -- one task less on the list
-      taken : (r : ℕ) → bit (taskAt s p .list) r ≡ 1
-          → children s p - sizeOf (withoutOf (taskAt s p .list) r) ≡ children s p - sizeOf (taskAt s p .list) + 1
-      taken r on = omega (arith, list-size s (i .valid) (i .kind) p known, without-size (taskAt s p .list) r on)
-
--- the place of a task after a turn, by its line, count and list
-after : (s : State) (p q : ℕ) (t : Task) → SameRound t (taskAt (turnOf s p .state) q)
-    → taskAt (turnOf s p .state) q .count * L s q + offset (turnOf s p .state) q ≡ place (children s q) t
-after s p q t same = let c = turn-constants s p in rw (c .n, c .parents, same .line, same .count, same .list)
-
-pub own : (s : State) (p : ℕ) → Inv s → Able s p
-    → taskAt s p .count * L s p + offset s p < taskAt (turnOf s p .state) p .count * L s p + offset (turnOf s p .state) p
-own s p i able = omega (arith, after s p p (effectOf s p .task) (turn-own s p (i .valid) able), rises s p i (able .0) (able .1))
-
-pub others : (s : State) (p q : ℕ) → Inv s → Able s p → q < s .n → q ≢ p
-    → taskAt (turnOf s p .state) q .count * L s q + offset (turnOf s p .state) q ≡ taskAt s q .count * L s q + offset s q
-others s p q i able h ne = after s p q (taskAt s q) (turn-other s p (i .valid) able q ne)
+  -- a move takes the task on by one
+  pub own : placed (children (tableOf s) p) (effectOf s p .task) ≡ placed (children (tableOf s) p) (taskAt s p) + 1 + 0
+  own =
+      by-line (λ e. placed (children (tableOf s) p) (e .task) ≡ placed (children (tableOf s) p) (taskAt s p) + 1 + 0) s p (i .valid) (i .kind) able
+      (λ l. rw l (omega arith))
+      (λ l. rw l (omega arith))
+      (λ l z. rw (l, z, size-zero) (omega arith))
+      (λ k l on. rw l (omega arith))
+      (λ l up. rw l (omega (arith, fewer (taskAt s p .looked) (i .inv .standing .looks p (able .0) l))))
+      (λ l z. rw l (omega arith))
+      (λ l ne. rw l (omega arith))
+      (λ l w. rw l (omega arith))
+      (λ l. rw l (omega arith))
+      (λ l z. rw (l, z, size-zero) (omega arith))
+      (λ k l on. rw l (omega (arith, fewer k on)))

@@ -1,26 +1,27 @@
 -- The tree barrier has the laws of a barrier.
+use mathlib.Core.Path.{refl}
 use Rattle.barrier.specs.Barrier.{Barrier}
 use Rattle.tree.specs.Invariant.{Inv}
 use Rattle.tree.specs.Kept.{fresh, keeps}
-use Rattle.tree.specs.Safe.{close, behind}
 use Rattle.tree.specs.Moves.{someone}
-use Rattle.tree.specs.Round.{L, offset, within, same-L, own, others}
+use Rattle.tree.specs.Round.{L, offset, within, counts, own}
+use Rattle.tree.specs.Safe.{close, behind}
 
 unfoldable pub tree : Barrier 3
 tree =
     record {
       Inv = Inv;
-      in-range = λ s i. i .valid;
-      of-kind = λ s i. i .kind;
       fresh = fresh;
       keeps = keeps;
       close = close;
       behind = behind;
       someone = someone;
+      rise = 15;
+      counts = counts;
       L = L;
       offset = offset;
+      apart = λ n table q t x. (refl, refl);
       within = within;
-      same-L = same-L;
+      skips = λ v p. 0;
       own = own;
-      others = others;
     }

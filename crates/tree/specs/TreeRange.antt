@@ -6,14 +6,13 @@ use Prim.Native.Nat.{ℕ, _≤_, _<_}
 use native.Mathlib.Omega.{arith}
 use borrow.Author.Tests.{eqb-true}
 use Rattle.bitset.specs.Set.{bit, leastOf, withinOf, sizeOf}
-use Rattle.bitset.specs.SetLaws.{bit-le, within-bit, within-lt, least-of-list}
+use Rattle.bitset.specs.SetLaws.{bit-le, within-bit, within-lt, least-of-list, within-size}
 use Rattle.parents.specs.Parents.{IsTree, parentOf, childrenOf}
 use Rattle.parents.specs.ParentsLaws.{accepted, children-exactly}
 use Rattle.machine.specs.declared.State.{State}
 use Rattle.machine.specs.Setters.{taskAt}
 use Rattle.machine.specs.Range.{tableOf, Valid}
 use Rattle.machine.specs.RangeLaws.{range}
-use Rattle.bitset.specs.SetLaws.{within-size}
 
 module _ (s : State) (ok : Valid s) (kind : s .kind ≡ 3) where
   pub is-tree : IsTree (tableOf s) (s .n)

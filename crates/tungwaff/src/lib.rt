@@ -1,35 +1,46 @@
 // The library for programs in C and Rust: numbers, byte slices and lent buffers only. What each function answers is defined in
 // specs/Entry.antt over the definitions of the crates below.
+mod numbers;
+
 use machine::Setup;
-use runner::Ending;
-use schedule::answer::Passes;
+use machine::State;
 ghost use mathlib.Core.Path.{_≡_};
 ghost use lib.ListN.{length};
 ghost use Rattle.schedule.specs.Passes.{passesAnswer, passesReason, pairsAfter};
+ghost use Rattle.machine.specs.Fresh.{inputsOf};
 ghost use Rattle.sheet_text.specs.Print.{sheetOf, pageOf};
-ghost use Rattle.tungwaff.specs.Entry.{inputsFrom, endingReason, endingNumber, passesNumber, entryReason, entryNumber, entryLog};
+ghost use Rattle.tungwaff.specs.Entry.{inputsFrom, wholeRunOf, wholeRunLog, thenTurnReason, thenTurnNumber, thenReadyReason, thenReadyNumber, passesNumber};
 
-// The reason that an ending gives.
-fn ending_reason(ending: Ending) -> u8
-    ensures { λ r. ⌜ r ≡ endingReason ending ⌝ }
-{
-    match ending {
-        Ending::Done => 0,
-        Ending::Spent => 0,
-        Ending::Stopped(reason) => reason,
-        Ending::Refused(reason, _) => reason,
-    }
+// What the run of a whole schedule from a fresh state leaves: the state; the reason that refused the fresh state, the run or a turn, 0 if
+// nothing was refused; and the turns made, for reason 9 the place of the first turn that is no task.
+struct WholeRun {
+    state: State,
+    reason: u8,
+    number: usize,
 }
 
-// The place that an ending gives, or else the turns made.
-fn ending_number(ending: Ending, turns: usize) -> usize
-    ensures { λ r. ⌜ r ≡ endingNumber ending turns ⌝ }
+// Runs the whole schedule from a fresh state; one that is refused runs nothing.
+fn whole_run(setup: Setup, parents: &[u8], schedule: &[u8], log: &mut [u8]) -> WholeRun
+    ensures { λ r. ⌜ r ≡ wholeRunOf (inputsOf setup (now (parents .entry))) (now (schedule .entry)) (now (log .entry)) ⌝ }
+    ensures { λ _. ⌜ now (log .exit) ≡ wholeRunLog (inputsOf setup (now (parents .entry))) (now (schedule .entry)) (now (log .entry)) ⌝ }
 {
-    match ending {
-        Ending::Done => turns,
-        Ending::Spent => turns,
-        Ending::Stopped(_) => turns,
-        Ending::Refused(_, place) => place,
+    let fresh = setup.fresh(parents);
+    let start = fresh.state;
+    let reason = fresh.reason;
+    if reason != 0 {
+        return WholeRun {
+            state: start,
+            reason,
+            number: 0,
+        };
+    }
+    let ran = runner::run(start, schedule, schedule.len(), log);
+    let state = ran.state;
+    let ending = ran.ending;
+    WholeRun {
+        state,
+        reason: numbers::ending_reason(ending),
+        number: numbers::ending_number(ending, ran.turns),
     }
 }
 
@@ -46,21 +57,74 @@ pub extern "C" fn tungwaff_run(
     log: &mut [u8],
     number: &mut usize,
 ) -> u8
-    ensures { λ r. ⌜ r ≡ entryReason (inputsFrom kind n modulus (now (parents .entry))) (now (schedule .entry)) (now (log .entry)) ⌝ }
-    ensures { λ _. ⌜ now (number .exit) ≡ entryNumber (inputsFrom kind n modulus (now (parents .entry))) (now (schedule .entry)) (now (log .entry)) ⌝ }
-    ensures { λ _. ⌜ now (log .exit) ≡ entryLog (inputsFrom kind n modulus (now (parents .entry))) (now (schedule .entry)) (now (log .entry)) ⌝ }
+    ensures { λ r. ⌜ r ≡ wholeRunOf (inputsFrom kind n modulus (now (parents .entry))) (now (schedule .entry)) (now (log .entry)) .reason ⌝ }
+    ensures { λ _. ⌜ now (number .exit) ≡ wholeRunOf (inputsFrom kind n modulus (now (parents .entry))) (now (schedule .entry)) (now (log .entry)) .number ⌝ }
+    ensures { λ _. ⌜ now (log .exit) ≡ wholeRunLog (inputsFrom kind n modulus (now (parents .entry))) (now (schedule .entry)) (now (log .entry)) ⌝ }
 {
-    let setup = Setup { kind, n, modulus };
-    let fresh = setup.fresh(parents);
-    let reason = fresh.reason;
+    let run = whole_run(Setup { kind, n, modulus }, parents, schedule, log);
+    *number = run.number;
+    run.reason
+}
+
+// Runs the whole schedule as `tungwaff_run` does, and then makes a turn of the task. Answers the reason that refused the run, or else
+// the turn; 0 if nothing was refused. The number is that of the run where it was refused or stopped; else 1 if the turn moved, 0 if it
+// waited or was refused.
+#[no_mangle]
+pub extern "C" fn tungwaff_turn(
+    kind: usize,
+    n: usize,
+    modulus: usize,
+    parents: &[u8],
+    schedule: &[u8],
+    log: &mut [u8],
+    task: usize,
+    number: &mut usize,
+) -> u8
+    ensures { λ r. ⌜ r ≡ thenTurnReason (wholeRunOf (inputsFrom kind n modulus (now (parents .entry))) (now (schedule .entry)) (now (log .entry))) task ⌝ }
+    ensures { λ _. ⌜ now (number .exit) ≡ thenTurnNumber (wholeRunOf (inputsFrom kind n modulus (now (parents .entry))) (now (schedule .entry)) (now (log .entry))) task ⌝ }
+    ensures { λ _. ⌜ now (log .exit) ≡ wholeRunLog (inputsFrom kind n modulus (now (parents .entry))) (now (schedule .entry)) (now (log .entry)) ⌝ }
+{
+    let run = whole_run(Setup { kind, n, modulus }, parents, schedule, log);
+    let reason = run.reason;
     if reason != 0 {
-        *number = 0;
+        *number = run.number;
         return reason;
     }
-    let ran = runner::run(fresh.state, schedule, schedule.len(), log);
-    let ending = ran.ending;
-    *number = ending_number(ending, ran.turns);
-    ending_reason(ending)
+    let state = run.state;
+    let turned = state.turn(task);
+    let outcome = turned.outcome;
+    *number = numbers::turn_number(outcome);
+    numbers::turn_reason(outcome)
+}
+
+// Runs the whole schedule as `tungwaff_run` does, and then asks who can move. Answers the reason that refused the run, or else the
+// question; 0 if nothing was refused. The number is that of the run where it was refused or stopped; else the least task that can move,
+// 64 if nobody can.
+#[no_mangle]
+pub extern "C" fn tungwaff_ready(
+    kind: usize,
+    n: usize,
+    modulus: usize,
+    parents: &[u8],
+    schedule: &[u8],
+    log: &mut [u8],
+    number: &mut usize,
+) -> u8
+    ensures { λ r. ⌜ r ≡ thenReadyReason (wholeRunOf (inputsFrom kind n modulus (now (parents .entry))) (now (schedule .entry)) (now (log .entry))) ⌝ }
+    ensures { λ _. ⌜ now (number .exit) ≡ thenReadyNumber (wholeRunOf (inputsFrom kind n modulus (now (parents .entry))) (now (schedule .entry)) (now (log .entry))) ⌝ }
+    ensures { λ _. ⌜ now (log .exit) ≡ wholeRunLog (inputsFrom kind n modulus (now (parents .entry))) (now (schedule .entry)) (now (log .entry)) ⌝ }
+{
+    let run = whole_run(Setup { kind, n, modulus }, parents, schedule, log);
+    let reason = run.reason;
+    if reason != 0 {
+        *number = run.number;
+        return reason;
+    }
+    let state = run.state;
+    let readied = state.ready();
+    let ready = readied.ready;
+    *number = numbers::ready_number(ready);
+    numbers::ready_reason(ready)
 }
 
 // Writes the pairs of offset and length of a schedule's passes. Answers the reason that refused the call, 0 if it was not refused. The
@@ -77,16 +141,8 @@ pub extern "C" fn tungwaff_passes(
     ensures { λ _. ⌜ now (pairs .exit) ≡ pairsAfter n (now (schedule .entry)) (now (pairs .entry)) ⌝ }
 {
     let answer = schedule::passes(n, schedule, pairs);
-    match answer {
-        Passes::Count(count) => {
-            *number = count;
-            0
-        }
-        Passes::Refused(reason, place) => {
-            *number = place;
-            reason
-        }
-    }
+    *number = numbers::passes_number(answer);
+    numbers::passes_reason(answer)
 }
 
 // Prints the sheet of a text to the page, with zeros after it, and answers how many bytes it has.

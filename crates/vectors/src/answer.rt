@@ -235,7 +235,13 @@ fn shape(shape: usize, n: usize, len: usize, out: &mut Output, at: usize) -> usi
 }
 
 // The answer to a line, with no line feed. Its parents or turns stand in `tail`.
-pub fn answer(state: State, line: Line, tail: &[u8], out: &mut Output, at: usize) -> Printed {
+pub(crate) fn answer(
+    state: State,
+    line: Line,
+    tail: &[u8],
+    out: &mut Output,
+    at: usize,
+) -> Printed {
     let ask = request::asked(line);
     let a = line.head[1] as usize;
     let b = line.head[2] as usize;

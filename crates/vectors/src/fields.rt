@@ -1,8 +1,8 @@
 // The fields of the kept state: shown one by one, and changed by number.
 use crate::print;
 use crate::print::Output;
+use lines::Task;
 use machine::State;
-use machine::Task;
 
 // A task's fields, each after a space. Their places in this order are their numbers in a change.
 fn show_task(t: Task, out: &mut Output, at: usize) -> usize {
@@ -33,7 +33,7 @@ fn show_tasks(state: State, out: &mut Output, at: usize) -> usize {
 }
 
 // The whole state: its own fields, the parents, the tasks.
-pub fn show(state: State, out: &mut Output, at: usize) -> usize {
+pub(crate) fn show(state: State, out: &mut Output, at: usize) -> usize {
     let mut k = print::number(state.kind as u64, out, at);
     k = print::next(state.n as u64, out, k);
     k = print::next(state.modulus as u64, out, k);
@@ -62,7 +62,7 @@ fn most(field: u64) -> u64 {
 }
 
 // Whether there is such a field, and it can hold the value.
-pub fn holds(field: u64, task: usize, value: u64) -> bool {
+pub(crate) fn holds(field: u64, task: usize, value: u64) -> bool {
     if places(field) <= task {
         return false;
     }
@@ -86,7 +86,7 @@ fn task_with(mut t: Task, field: u64, value: u64) -> Task {
 }
 
 // The state with a field changed to a value that it can hold.
-pub fn with(mut state: State, field: u64, task: usize, value: u64) -> State {
+pub(crate) fn with(mut state: State, field: u64, task: usize, value: u64) -> State {
     let byte = (value % 256) as u8;
     if 64 <= task {
         return state;

@@ -25,7 +25,7 @@ pub enum Said {
 }
 
 // One byte. A full buffer is written out first.
-pub fn byte(b: u8, out: &mut Output, at: usize) -> usize {
+pub(crate) fn byte(b: u8, out: &mut Output, at: usize) -> usize {
     if at < ROOM {
         out[at] = b;
         return at + 1;
@@ -45,7 +45,7 @@ fn text(s: &[u8], out: &mut Output, at: usize) -> usize {
     k
 }
 
-pub fn number(n: u64, out: &mut Output, at: usize) -> usize {
+pub(crate) fn number(n: u64, out: &mut Output, at: usize) -> usize {
     let mut digits = [0u8; 20];
     let len = io::decimal(n, &mut digits);
     text(&digits[..len], out, at)
@@ -67,7 +67,7 @@ fn plain(word: Word, out: &mut Output, at: usize) -> usize {
     }
 }
 
-pub fn say(answer: Said, out: &mut Output, at: usize) -> usize {
+pub(crate) fn say(answer: Said, out: &mut Output, at: usize) -> usize {
     match answer {
         Said::Plain(word) => plain(word, out, at),
         Said::Number(n) => number(n, out, at),
@@ -79,12 +79,12 @@ pub fn say(answer: Said, out: &mut Output, at: usize) -> usize {
 }
 
 // A space and a number.
-pub fn next(n: u64, out: &mut Output, at: usize) -> usize {
+pub(crate) fn next(n: u64, out: &mut Output, at: usize) -> usize {
     counted(b" ", n, out, at)
 }
 
 // A space and a number for each byte.
-pub fn bytes(list: &[u8], out: &mut Output, at: usize) -> usize {
+pub(crate) fn bytes(list: &[u8], out: &mut Output, at: usize) -> usize {
     let mut k = at;
     let mut i = 0;
     while i < list.len() {
@@ -95,7 +95,7 @@ pub fn bytes(list: &[u8], out: &mut Output, at: usize) -> usize {
 }
 
 // The same for numbers of 32 bits.
-pub fn words(list: &[u32], out: &mut Output, at: usize) -> usize {
+pub(crate) fn words(list: &[u32], out: &mut Output, at: usize) -> usize {
     let mut k = at;
     let mut i = 0;
     while i < list.len() {
@@ -106,7 +106,7 @@ pub fn words(list: &[u32], out: &mut Output, at: usize) -> usize {
 }
 
 // The part of a slice from a start to an end; none where there is no such part.
-pub fn part(s: &[u8], from: usize, to: usize) -> &[u8] {
+pub(crate) fn part(s: &[u8], from: usize, to: usize) -> &[u8] {
     if to < from {
         return &s[..0];
     }
@@ -117,6 +117,6 @@ pub fn part(s: &[u8], from: usize, to: usize) -> &[u8] {
 }
 
 // Writes out what the buffer holds.
-pub fn flush(out: &Output, at: usize) {
+pub(crate) fn flush(out: &Output, at: usize) {
     io::write_all(STDOUT_FILENO, part(out, 0, at));
 }

@@ -2,7 +2,7 @@
 use crate::text::Line;
 
 // How many numbers a request has before its parents or turns, itself among them; 0 for an unknown one.
-pub fn head_of(ask: u64) -> usize {
+pub(crate) fn head_of(ask: u64) -> usize {
     match ask {
         3 | 5 => 1,
         2 => 2,
@@ -22,7 +22,7 @@ fn most_after(ask: u64) -> usize {
 }
 
 // The number of the request; 0 for a line with too few or too many numbers, or with a parent or a turn that is no byte.
-pub fn asked(line: Line) -> u64 {
+pub(crate) fn asked(line: Line) -> u64 {
     let ask = line.head[0];
     let head = head_of(ask);
     if line.bad {

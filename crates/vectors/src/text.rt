@@ -26,7 +26,7 @@ pub struct Line {
     pub bad: bool,
 }
 
-pub fn empty() -> Line {
+pub(crate) fn empty() -> Line {
     Line {
         length: 0,
         digits: 0,
@@ -59,7 +59,7 @@ impl Line {
     }
 
     // The end of the number: a space, or the end of the line.
-    pub fn end_number(mut self, entries: &mut Entries) -> Self {
+    pub(crate) fn end_number(mut self, entries: &mut Entries) -> Self {
         let k = self.count;
         let value = self.value;
         if self.bad {
@@ -85,7 +85,7 @@ impl Line {
     }
 
     // One more byte of the line.
-    pub fn byte(mut self, b: u8, entries: &mut Entries) -> Self {
+    pub(crate) fn byte(mut self, b: u8, entries: &mut Entries) -> Self {
         if self.bad {
             return self;
         }

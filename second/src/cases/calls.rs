@@ -1,11 +1,15 @@
 //! Random requests beside those of a barrier: passes, first passes, shapes, and lines that are
 //! almost requests.
 
-use super::scenes::{any_task_count, near, near_length, spoil};
+use super::values::{any_task_count, near, near_length, spoil};
 use crate::passes::Passes;
 use crate::random::Random;
 use crate::recorder::Recorder;
 use crate::schedules;
+use crate::spelling::misspell;
+
+/// The bytes of which a misspelt line is made.
+const OTHER_BYTES: &[u8] = b" 0123456789-+,.x\t\r\0\xff";
 
 /// Passes of random schedules.
 pub fn any_passes(recorder: &mut Recorder, random: &mut Random) {
@@ -49,7 +53,7 @@ pub fn misspelt(recorder: &mut Recorder, random: &mut Random) {
     for _ in 0..random.length(1, 6) {
         let mut text = any_line(random).into_bytes();
         for _ in 0..random.length(0, 2) {
-            misspell(random, &mut text);
+            misspell(random, &mut text, OTHER_BYTES);
         }
         recorder.ask(text);
     }
@@ -72,18 +76,4 @@ fn any_line(random: &mut Random) -> String {
         format!("{number:0width$}")
     });
     words.collect::<Vec<_>>().join(" ")
-}
-
-/// Puts in, takes out or changes one byte.
-fn misspell(random: &mut Random, text: &mut Vec<u8>) {
-    let byte = random.pick(b" 0123456789-+,.x\t\r\0\xff");
-    let place = random.length(0, text.len());
-    match random.below(3) {
-        0 => text.insert(place, byte),
-        1 if place < text.len() => text[place] = byte,
-        2 if place < text.len() => {
-            text.remove(place);
-        }
-        _ => {}
-    }
 }

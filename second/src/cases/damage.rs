@@ -1,8 +1,8 @@
 //! Random damage: fields changed to values in and near their ranges, whole random states in
 //! range, and counts near their limit.
 
-use super::scenes::{accepted_fresh, any_run, turn_of_ready, turn_of_someone};
-use super::TASK_COUNTS;
+use super::steps::{accepted_fresh, any_run, turn_of_ready, turn_of_someone};
+use super::values::TASK_COUNTS;
 use crate::machine::{in_range, State, FETCH_AND_INCREMENT, MAX_COUNT, RING, SYMMETRIC, TREE};
 use crate::random::Random;
 use crate::recorder::Recorder;

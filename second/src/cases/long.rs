@@ -1,10 +1,10 @@
 //! Long schedules: 65,536 turns are taken and 65,537 refused, by a run and by passes.
 
 use crate::machine::{FETCH_AND_INCREMENT, RING, SYMMETRIC, TREE};
+use crate::parents;
 use crate::random::Random;
 use crate::recorder::Recorder;
 use crate::schedules::{bursts, cycle, repeat, shuffles, uniform};
-use crate::shapes::shape;
 
 const MOST: usize = 65_536;
 
@@ -33,8 +33,7 @@ fn long_runs(recorder: &mut Recorder, random: &mut Random) {
 /// A whole run from a fresh state; a tree has the shape given.
 fn run_fresh(recorder: &mut Recorder, kind: u8, n: u64, number: u64, schedule: &[u8]) {
     let modulus = if kind == SYMMETRIC { 3 } else { 0 };
-    let mut parents = vec![0; if kind == TREE { n as usize } else { 0 }];
-    let _ = shape(number, parents.len() as u64, &mut parents);
+    let parents = parents::of_shape(number, if kind == TREE { n as usize } else { 0 });
     recorder.fresh(kind.into(), n, modulus, &parents);
     recorder.run_all(schedule);
     recorder.ready();

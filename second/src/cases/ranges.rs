@@ -2,9 +2,9 @@
 //! and from N on.
 
 use crate::machine::{SYMMETRIC, TREE};
+use crate::parents;
 use crate::recorder::Recorder;
 use crate::schedules::cycle;
-use crate::shapes::shape;
 
 pub fn cases(recorder: &mut Recorder) {
     for kind in 0..=3 {
@@ -22,8 +22,7 @@ pub fn cases(recorder: &mut Recorder) {
 
 /// A state some turns after a fresh one.
 fn begin(recorder: &mut Recorder, kind: u8, n: usize) {
-    let mut parents = vec![0; if kind == TREE { n } else { 0 }];
-    let _ = shape(2, parents.len() as u64, &mut parents);
+    let parents = parents::of_shape(2, if kind == TREE { n } else { 0 });
     let modulus = if kind == SYMMETRIC { 5 } else { 0 };
     recorder.fresh(kind.into(), n as u64, modulus, &parents);
     recorder.run_all(&cycle(n, 5));

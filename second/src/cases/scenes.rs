@@ -2,25 +2,13 @@
 
 use super::calls::{any_first_pass, any_passes, any_shape, misspelt};
 use super::damage::{damage, damage_for_a_while, near_the_limit, state_in_range};
-use super::TASK_COUNTS;
-use crate::machine::{ready, SYMMETRIC, TREE};
+use super::steps::{accepted_fresh, any_run, turn_of_ready, turn_of_someone};
+use super::values::{any_task_count, near, near_length, TASK_COUNTS};
+use crate::parents;
 use crate::passes::Passes;
 use crate::random::Random;
 use crate::recorder::Recorder;
 use crate::schedules;
-use crate::shapes::shape;
-
-/// Numbers around the ends of the ranges.
-const NEAR: [u64; 18] = [0, 1, 2, 3, 4, 5, 10, 11, 18, 19, 62, 63, 64, 65, 254, 255, 256, 257];
-
-/// A number around the end of a range, or the largest of all.
-pub fn near(random: &mut Random) -> u64 {
-    if random.once_in(20) {
-        u64::MAX
-    } else {
-        random.pick(&NEAR)
-    }
-}
 
 // ---- the stored random cases ----
 
@@ -106,21 +94,6 @@ fn act(recorder: &mut Recorder, random: &mut Random) {
     }
 }
 
-/// A single turn, most often of a task.
-pub fn turn_of_someone(recorder: &mut Recorder, random: &mut Random) {
-    let n = recorder.n().max(1) as u64;
-    let task = if random.once_in(12) { near(random) } else { random.below(n) };
-    recorder.turn(task);
-}
-
-/// The turn of the task that ready names, if it names one.
-pub fn turn_of_ready(recorder: &mut Recorder) {
-    recorder.ready();
-    if let Ok(Some(task)) = ready(recorder.state()) {
-        recorder.turn(task as u64);
-    }
-}
-
 /// A schedule that may be as long as schedules can be, or too long.
 fn long_schedule(recorder: &mut Recorder, random: &mut Random) {
     let kind = random.below(4) as u8;
@@ -152,43 +125,6 @@ fn many_turns(recorder: &mut Recorder, random: &mut Random) {
     recorder.show();
 }
 
-// ---- fresh states ----
-
-/// A task count, most often a small one.
-pub fn any_task_count(random: &mut Random) -> usize {
-    match random.below(4) {
-        0 => random.pick(&TASK_COUNTS),
-        1 => random.length(1, 64),
-        _ => random.length(1, 5),
-    }
-}
-
-/// A fresh state that is accepted.
-pub fn accepted_fresh(recorder: &mut Recorder, random: &mut Random, kind: u8, n: usize) {
-    let modulus = match kind {
-        SYMMETRIC => random.pick(&[3, 3, 4, 5, 7, 254, 255]),
-        _ => 0,
-    };
-    let parents = match kind {
-        TREE => any_parents(random, n),
-        _ => Vec::new(),
-    };
-    recorder.fresh(kind.into(), n as u64, modulus, &parents);
-}
-
-/// The parents of a shape or of a random tree.
-fn any_parents(random: &mut Random, n: usize) -> Vec<u8> {
-    let mut parents = vec![0; n];
-    if random.once_in(2) {
-        let _ = shape(random.below(4), n as u64, &mut parents);
-    } else {
-        for (task, parent) in parents.iter_mut().enumerate().skip(1) {
-            *parent = random.below(task as u64) as u8;
-        }
-    }
-    parents
-}
-
 /// A fresh state that may be refused.
 fn any_fresh(recorder: &mut Recorder, random: &mut Random) {
     for _ in 0..random.length(1, 8) {
@@ -198,7 +134,7 @@ fn any_fresh(recorder: &mut Recorder, random: &mut Random) {
         let modulus = if random.once_in(3) { near(random) } else { fits };
         let fits = if kind == 3 { n.min(65) as usize } else { 0 };
         let length = if random.once_in(3) { random.length(0, 5) } else { fits };
-        let mut parents = any_parents(random, length);
+        let mut parents = parents::any(random, length);
         if length > 0 && random.once_in(2) {
             let task = random.length(0, length - 1);
             parents[task] = random.pick(&[0, 1, 2, task as u8, task as u8 + 1, 64, 255]);
@@ -207,43 +143,4 @@ fn any_fresh(recorder: &mut Recorder, random: &mut Random) {
         recorder.ready();
     }
     recorder.show();
-}
-
-// ---- runs ----
-
-/// A run of the kept state; the schedule, the allowance or the log may be wrong.
-pub fn any_run(recorder: &mut Recorder, random: &mut Random, longest: usize) {
-    let n = recorder.n().clamp(1, 64);
-    let length = random.length(0, longest);
-    let mut schedule = schedules::any(random, n, length);
-    spoil(random, &mut schedule, n);
-    let length = length as u64;
-    let allowance = match random.below(8) {
-        0 => near(random),
-        1 => random.below(length + 1),
-        2 => length.saturating_sub(1),
-        3 => length + 1,
-        _ => length,
-    };
-    let log = 2 * allowance.min(length);
-    recorder.run(allowance, near_length(random, log), &schedule);
-}
-
-/// Now and then makes a turn or two name no task.
-pub fn spoil(random: &mut Random, schedule: &mut [u8], n: usize) {
-    while !schedule.is_empty() && random.once_in(12) {
-        let place = random.length(0, schedule.len() - 1);
-        schedule[place] = random.pick(&[n as u8, n as u8 + 1, 255]);
-    }
-}
-
-/// A buffer's length, most often just enough.
-pub fn near_length(random: &mut Random, enough: u64) -> u64 {
-    match random.below(12) {
-        0 => enough.saturating_sub(1),
-        1 => enough.saturating_sub(2),
-        2 => enough + 1,
-        3 => enough + random.below(9),
-        _ => enough,
-    }
 }

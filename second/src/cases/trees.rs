@@ -1,10 +1,10 @@
 //! Every tree shape for every N, each as a fresh tree's table, and runs of some of them.
 
-use super::TASK_COUNTS;
+use super::values::TASK_COUNTS;
 use crate::machine::TREE;
+use crate::parents;
 use crate::recorder::Recorder;
 use crate::schedules::cycle;
-use crate::shapes::shape;
 
 pub fn cases(recorder: &mut Recorder) {
     for number in 0..=3 {
@@ -16,10 +16,8 @@ pub fn cases(recorder: &mut Recorder) {
 
 /// A shape's table, and the fresh tree with this table.
 fn table(recorder: &mut Recorder, number: u64, n: usize) {
-    let mut parents = vec![0; n];
-    let _ = shape(number, n as u64, &mut parents);
     recorder.shape(number, n as u64, n as u64 + 2);
-    recorder.fresh(TREE.into(), n as u64, 0, &parents);
+    recorder.fresh(TREE.into(), n as u64, 0, &parents::of_shape(number, n));
     recorder.ready();
     if TASK_COUNTS.contains(&n) {
         recorder.run_all(&from_the_leaves(n));

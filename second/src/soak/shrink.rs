@@ -7,18 +7,16 @@ use std::time::{Duration, Instant};
 /// How long shrinking may take.
 const PATIENCE: Duration = Duration::from_secs(120);
 
-/// A list of requests as short as can be found that still shows a difference.
+/// A list of requests as short as can be found in the time that still shows a difference.
 pub fn shrink(programs: &Programs, requests: Requests) -> io::Result<Requests> {
     let end = Instant::now() + PATIENCE;
-    let differs = |requests: &[Vec<u8>]| {
-        Instant::now() < end && matches!(programs.difference(requests), Ok(Some(_)))
-    };
+    let differs = |requests: &[Vec<u8>]| matches!(programs.difference(requests), Ok(Some(_)));
     let mut requests = up_to_the_difference(programs, requests)?;
     loop {
         let before = requests.concat().len();
-        requests = reduce(requests, 0, &differs);
+        requests = reduce(requests, 0, end, &differs);
         for place in 0..requests.len() {
-            shorten(&mut requests, place, &differs);
+            shorten(&mut requests, place, end, &differs);
         }
         if requests.concat().len() == before {
             return Ok(requests);
@@ -39,9 +37,14 @@ fn up_to_the_difference(programs: &Programs, requests: Requests) -> io::Result<R
 }
 
 /// Drops numbers of one request from its fourth on: turns, most of all.
-fn shorten(requests: &mut Requests, place: usize, differs: &impl Fn(&[Vec<u8>]) -> bool) {
+fn shorten(
+    requests: &mut Requests,
+    place: usize,
+    end: Instant,
+    differs: &impl Fn(&[Vec<u8>]) -> bool,
+) {
     let words = requests[place].split(|&byte| byte == b' ').map(Vec::from);
-    let words = reduce(words.collect(), 3, &|words: &[Vec<u8>]| {
+    let words = reduce(words.collect(), 3, end, &|words: &[Vec<u8>]| {
         let mut shorter = requests.clone();
         shorter[place] = words.join(&b' ');
         differs(&shorter)
@@ -50,24 +53,38 @@ fn shorten(requests: &mut Requests, place: usize, differs: &impl Fn(&[Vec<u8>]) 
 }
 
 /// Drops items from the first place on, in ever smaller groups, as long as the rest will do.
-pub fn reduce<T: Clone>(
+fn reduce<T: Clone>(
     mut items: Vec<T>,
     first: usize,
+    end: Instant,
     will_do: &impl Fn(&[T]) -> bool,
 ) -> Vec<T> {
     let mut group = items.len().saturating_sub(first);
     while group > 0 {
-        let mut place = first;
-        while place < items.len() {
-            let end = (place + group).min(items.len());
-            let rest = [&items[..place], &items[end..]].concat();
-            if !rest.is_empty() && will_do(&rest) {
-                items = rest;
-            } else {
-                place = end;
-            }
-        }
+        items = drop_groups(items, first, group, end, will_do);
         group /= 2;
+    }
+    items
+}
+
+/// Drops each group of so many items without which the rest will do. Ends with the time, not only
+/// the asking: a long schedule has too many groups even to be put together for each.
+fn drop_groups<T: Clone>(
+    mut items: Vec<T>,
+    first: usize,
+    group: usize,
+    end: Instant,
+    will_do: &impl Fn(&[T]) -> bool,
+) -> Vec<T> {
+    let mut place = first;
+    while place < items.len() && Instant::now() < end {
+        let next = (place + group).min(items.len());
+        let rest = [&items[..place], &items[next..]].concat();
+        if !rest.is_empty() && will_do(&rest) {
+            items = rest;
+        } else {
+            place = next;
+        }
     }
     items
 }
@@ -75,7 +92,15 @@ pub fn reduce<T: Clone>(
 #[test]
 fn reduced_to_the_needed_items() {
     let items: Vec<u32> = (0..1_000).collect();
+    let end = Instant::now() + PATIENCE;
     let needs = |items: &[u32]| items.contains(&3) && items.contains(&700) && items.len() > 2;
-    let reduced = reduce(items, 2, &needs);
+    let reduced = reduce(items, 2, end, &needs);
     assert!(reduced.len() == 4 && reduced.starts_with(&[0, 1]), "{reduced:?}");
+}
+
+#[test]
+fn nothing_is_tried_once_the_time_is_up() {
+    let items = vec![b"0".to_vec(); 70_000];
+    let reduced = reduce(items.clone(), 0, Instant::now(), &|_: &[Vec<u8>]| true);
+    assert!(reduced == items);
 }

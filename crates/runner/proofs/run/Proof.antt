@@ -1,39 +1,113 @@
--- `runner::run` meets its contract, a return for each answer.
+-- `runner::run` meets its contract, a return for each answer. Each place is reached from the next by a name, and each fact stands at the first
+-- place that has it.
 use borrow.Author.Needs.{needs}
-use mathlib.Core.Path.{sym, ap, _∙_}
+use mathlib.Core.Path.{_≡_, refl, sym, _∙_}
+use mathlib.Core.Bool.{true}
+use Prim.Native.Nat.{_≤_}
 use native.Mathlib.Omega.{arith}
-use Rattle.runner.specs.Trace.{traceOf}
-use Rattle.runner.specs.Run.{ranOf}
-use Rattle.runner.specs.declared.Ending.{Ending}
-use lib.ListN.{take}
+use lib.ListN.{length}
+use lib.Seq.{length-take-le}
+use Rattle.machine.specs.Range.{Valid}
+use Rattle.machine.specs.RangeLaws.{range}
+use Rattle.machine.proofs.Arrays.{parents-64}
+use Rattle.schedule.specs.Passes.{maxTurns, allTasks}
 use Rattle.runner.proofs.Answers.{refuses-7, refuses-8, refuses-9, refuses-10, accepts, all-tasks}
 use Rattle.runner.proofs.run.Statement.{statement}
 use Rattle.runner.proofs.run.Tie as tie
 
+-- ---- the places, and what each test leaves
+
+abbrev start : tie.After-check → tie.Start
+start c = c .before .before .before
+
+ok : (c : tie.Else1) → Valid (start (c .before) .args .state)
+ok c = sym (c .before .check .ensures) ∙ c .if1 .left
+
+abbrev handed : tie.Else2 → tie.Start
+handed c = start (c .before .before)
+
+few : (c : tie.Else2) → length (handed c .args .schedule .now) ≤ maxTurns
+few c = c .if2 .left
+
+abbrev short : tie.After-unknown-at → tie.Else2
+short c = c .before .before
+
+known : (c : tie.Else3) → allTasks (handed (short (c .before)) .args .state .n) (handed (short (c .before)) .args .schedule .now) ≡ true
+known c = all-tasks _ _ _ (c .before .unknown-at .ensures) (c .if3 .left)
+
+abbrev counted : tie.After-smaller → tie.Else2
+counted c = short (c .before .before)
+
+abbrev roomy : tie.After-ended → tie.Else4
+roomy c = c .before .before .before
+
+-- the table is there
+table-there : (c : tie.After-ended) → handed (counted (roomy c .before)) .args .state .n ≤ length (handed (counted (roomy c .before)) .args .state .parents)
+table-there c =
+    let f = counted (roomy c .before) in
+    let s = handed f .args .state in
+    omega (arith, range s (ok (f .before)) .few, parents-64 s _ (handed f .good .0))
+
+-- ---- the needs
+
 returns : tie.Need-returns
-returns c = refuses-7 (c .before .before .before .before .before .args .state) (c .before .before .before .before .before .args .schedule .now) (c .before .before .before .before .before .args .allowance) (c .before .before .before .before .before .args .log .now) (c .before .before .check .result) (c .before .before .check .ensures) (c .before .if1 .taken) _ (c .refused .ensures)
+returns c =
+    let k = c .before .before in
+    let a = start k .args in
+    refuses-7 (a .state) (a .schedule .now) (a .allowance) (a .log .now) (k .check .result) (k .check .ensures) (c .before .if1 .taken)
+    _ (c .refused .ensures)
 
 returns-2 : tie.Need-returns-2
-returns-2 c = refuses-8 (c .before .before .before .before .before .before .args .state) (c .before .before .before .before .before .before .args .schedule .now) (c .before .before .before .before .before .before .args .allowance) (c .before .before .before .before .before .before .args .log .now) (sym (c .before .before .before .check .ensures) ∙ c .before .before .if1 .left) (c .before .if2 .taken) _ (c .refused2 .ensures)
+returns-2 c =
+    let v = c .before .before in
+    let a = start (v .before) .args in
+    refuses-8 (a .state) (a .schedule .now) (a .allowance) (a .log .now) (ok v) (c .before .if2 .taken) _ (c .refused2 .ensures)
 
 returns-3 : tie.Need-returns-3
-returns-3 c = refuses-9 (c .before .before .before .before .before .before .before .before .before .args .state) (c .before .before .before .before .before .before .before .before .before .args .schedule .now) (c .before .before .before .before .before .before .before .before .before .args .allowance) (c .before .before .before .before .before .before .before .before .before .args .log .now) (sym (c .before .before .before .before .before .before .check .ensures) ∙ c .before .before .before .before .before .if1 .left) (c .before .before .before .before .if2 .left) _ (c .before .before .unknown-at .ensures) (c .before .if3 .taken) _ (c .refused3 .ensures)
+returns-3 c =
+    let u = c .before .before in
+    let f = short u in
+    let a = handed f .args in
+    refuses-9 (a .state) (a .schedule .now) (a .allowance) (a .log .now) (ok (f .before)) (few f) _ (u .unknown-at .ensures) (c .before .if3 .taken)
+    _ (c .refused3 .ensures)
 
 returns-4 : tie.Need-returns-4
-returns-4 c = refuses-10 (c .before .before .before .before .before .before .before .before .before .before .before .args .state) (c .before .before .before .before .before .before .before .before .before .before .before .args .schedule .now) (c .before .before .before .before .before .before .before .before .before .before .before .args .allowance) (c .before .before .before .before .before .before .before .before .before .before .before .args .log .now) (sym (c .before .before .before .before .before .before .before .before .check .ensures) ∙ c .before .before .before .before .before .before .before .if1 .left) (c .before .before .before .before .before .before .if2 .left) (all-tasks _ _ _ (c .before .before .before .before .unknown-at .ensures) (c .before .before .before .if3 .left)) _ (c .before .before .smaller .ensures) (c .before .if4 .taken) _ (c .refused4 .ensures)
+returns-4 c =
+    let m = c .before .before in
+    let f = counted m in
+    let a = handed f .args in
+    refuses-10 (a .state) (a .schedule .now) (a .allowance) (a .log .now) (ok (f .before)) (few f) (known (m .before)) _ (m .smaller .ensures)
+    (c .before .if4 .taken) _ (c .refused4 .ensures)
+
+array-share-prefix-parents : tie.Need-array-share-prefix-parents
+array-share-prefix-parents c = table-there c
+
+slice-aggregate-turns : tie.Need-slice-aggregate-turns
+slice-aggregate-turns c = sym (length-take-le _ _ (table-there (c .before)))
 
 turns-requires : tie.Need-turns-requires
-turns-requires c κs = ((sym (c .before .before .before .before .before .before .before .before .before .check .ensures) ∙ c .before .before .before .before .before .before .before .before .if1 .left), ((all-tasks _ _ _ (c .before .before .before .before .before .unknown-at .ensures) (c .before .before .before .before .if3 .left)), ((omega (arith, c .before .before .before .smaller .ensures), omega (arith, c .before .before .before .smaller .ensures, c .before .before .before .before .before .before .before .if2 .left)), c .before .before .if4 .left)))
+turns-requires c κs =
+    let r = roomy (c .before .before) in
+    let m = r .before in
+    let f = counted m in
+    let fewer = m .smaller .ensures in
+    (ok (f .before), (refl, (known (m .before), ((omega arith, omega (arith, few f)), r .if4 .left))))
 
 returns-5 : tie.Need-returns-5
-returns-5 c = accepts (c .before .before .before .before .before .before .before .before .before .before .before .before .before .before .before .args .state) (c .before .before .before .before .before .before .before .before .before .before .before .before .before .before .before .args .schedule .now) (c .before .before .before .before .before .before .before .before .before .before .before .before .before .before .before .args .allowance) (c .before .before .before .before .before .before .before .before .before .before .before .before .before .before .before .args .log .now) (sym (c .before .before .before .before .before .before .before .before .before .before .before .before .check .ensures) ∙ c .before .before .before .before .before .before .before .before .before .before .before .if1 .left) (c .before .before .before .before .before .before .before .before .before .before .if2 .left) (all-tasks _ _ _ (c .before .before .before .before .before .before .before .before .unknown-at .ensures) (c .before .before .before .before .before .before .before .if3 .left)) _ (c .before .before .before .before .before .before .smaller .ensures) (c .before .before .before .before .before .if4 .left) _ _
-    (c .before .before .turns .ensures .0 ∙ ap (λ (e : Ending). ranOf (traceOf (c .before .before .before .before .before .before .before .before .before .before .before .before .before .before .before .args .state) (take (c .before .before .before .before .before .before .smaller .result) (c .before .before .before .before .before .before .before .before .before .before .before .before .before .before .before .args .schedule .now))) e) (c .before .before .before .before .ended .ensures))
-    (c .before .before .turns .ensures .1)
+returns-5 c =
+    let t = c .before .before in
+    let d = t .before .before .before in
+    let r = roomy d in
+    let m = r .before in
+    let f = counted m in
+    let a = handed f .args in
+    accepts (a .state) (a .schedule .now) (a .allowance) (a .log .now) (ok (f .before)) (few f) (known (m .before)) _ (m .smaller .ensures)
+    (r .if4 .left) _ (d .ended .ensures) _ _ (t .turns .ensures .0) (t .turns .ensures .1)
 
 pub run-spec : {M : Type 1} → statement M
 run-spec =
     tie.close
     (tie.spec (λ c κs. search needs) (λ c κs. search needs) returns (λ c κs. search needs) returns-2
     (λ c. search needs) (λ c κs. search needs) (λ c κs. search needs) returns-3 (λ c κs. search needs)
-    (λ c. search needs) (λ c κs. search needs) returns-4 (λ c κs. search needs) turns-requires (λ c. search needs)
-    returns-5)
+    (λ c. search needs) (λ c κs. search needs) returns-4 (λ c. search needs) (λ c κs. search needs)
+    array-share-prefix-parents slice-aggregate-turns turns-requires (λ c. search needs) returns-5)

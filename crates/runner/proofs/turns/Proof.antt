@@ -1,77 +1,287 @@
 -- `runner::turns` meets its contract. The loop's invariant: state, tallies and log are those of the trace so far.
+-- A place of the code is reached from a later one by a name, and a fact stands at the first place that has it: a new place changes one name.
 use borrow.Author.Needs.{needs}
-use Prim.Native.Nat.{_*_, _-_, _≤_}
-use mathlib.Core.Path.{_≡_, ap, _∙_}
+use mathlib.Core.Path.{_≡_, sym, ap, _∙_}
+use Prim.Native.Nat.{ℕ, _+_, _*_, _-_, _≤_, _<_}
 use native.Mathlib.Omega.{arith}
-use lib.ListN.{length, drop, length-take, length-drop}
-use Rattle.machine.specs.Turn.{reasonNumber}
-use Rattle.runner.proofs.Going.{finished, stopped}
-use Rattle.runner.proofs.Going.{Going, going-none, few, going-long, byte-le, moves-room, waits-room, stop-at, goes-on}
+use lib.ListN.{length, getD, drop, length-take, length-drop}
+use Rattle.machine.specs.declared.Move.{Move}
+use Rattle.machine.specs.declared.Outcome.{Outcome}
+use Rattle.machine.specs.declared.State.{State}
+use Rattle.machine.specs.Setters.{taskAt}
+use Rattle.machine.specs.Turn.{effectOf, outcomeOf, reasonNumber}
+use Rattle.schedule.specs.Passes.{maxTurns}
+use Rattle.runner.proofs.Going as at
 use Rattle.runner.proofs.turns.Statement.{statement}
 use Rattle.runner.proofs.turns.Tie as tie
 
 abbrev Inv-loop : tie.InvT-loop
-Inv-loop schedule turns end log₀ state₀ moves₀ waits₀ i₀ log state moves waits i = (i ≤ turns) × Going state₀ schedule log₀ i state moves waits log
+Inv-loop table schedule turns end log₀ state₀ moves₀ waits₀ i₀ log state moves waits i = (i ≤ turns) × at.Going state₀ schedule log₀ i state moves waits log
 
 abbrev μ-loop : tie.MeasureT-loop
-μ-loop schedule turns end log₀ state₀ moves₀ waits₀ i₀ log state moves waits i = turns - i
+μ-loop table schedule turns end log₀ state₀ moves₀ waits₀ i₀ log state moves waits i = turns - i
+
+-- ---- what is handed over, and what its callers show
+
+abbrev Start : Type 0
+Start = tie.Start Inv-loop μ-loop
+
+few-turns : (c : Start) → (c .args .turns ≤ length (c .args .schedule .now)) × (c .args .turns ≤ maxTurns)
+few-turns c = c .pre .1 .1 .1 .0
+
+log-room : (c : Start) → 2 * c .args .turns ≤ length (c .args .log .now)
+log-room c = c .pre .1 .1 .1 .1
+
+abbrev entry : tie.After-slice-known Inv-loop μ-loop → Start
+entry c = c .before .before .before
+
+-- ---- the loop's test
+
+abbrev Test : Type 0
+Test = tie.At-loop Inv-loop μ-loop
+
+abbrev start : Test → Start
+start c = entry (c .before)
+
+going : (c : Test) → at.Going (start c .args .t1) (start c .args .schedule .now) (start c .args .log .now) (c .loop .i)
+    (c .loop .state) (c .loop .moves) (c .loop .waits) (c .loop .log)
+going c = c .loop .inv .1
+
+log-long : (c : Test) → length (c .loop .log) ≡ length (start c .args .log .now)
+log-long c = at.going-long (going c) (omega (arith, c .loop .inv .0, log-room (start c)))
+
+-- ---- a turn: the test was true
+
+abbrev Turn : Type 0
+Turn = tie.In-loop Inv-loop μ-loop
+
+abbrev begun : Turn → Start
+begun c = start (c .before)
+
+abbrev state : Turn → State
+state c = c .before .loop .state
+
+abbrev i : Turn → ℕ
+i c = c .before .loop .i
+
+abbrev task : Turn → ℕ
+task c = getD (begun c .args .schedule .now) (i c) 0
+
+next : (c : Turn) → at.Next (begun c .args .t1) (begun c .args .schedule .now) (begun c .args .log .now) (i c)
+    (state c) (c .before .loop .moves) (c .before .loop .waits) (c .before .loop .log)
+next c = record { going = going (c .before); all = begun c .pre .1 .1 .0; less = omega (arith, c .loop-test .taken, few-turns (begun c)) }
+
+-- the turn has room in the log, and the tallies have room for it
+row-there : (c : Turn) → 2 * i c + 2 ≤ length (begun c .args .log .now)
+row-there c = omega (arith, c .loop-test .taken, log-room (begun c))
+
+soon : (c : Turn) → i c < maxTurns
+soon c = omega (arith, c .loop-test .taken, few-turns (begun c))
+
+-- its task is there, and so is the one that it looks at
+own-there : (c : Turn) → task c < 64
+own-there c = at.own-there (next c)
+
+seen-there : (c : Turn) → taskAt (state c) (task c) .looked < 64
+seen-there c = at.seen-there (next c)
+
+abbrev looking : tie.After-struct-known Inv-loop μ-loop → Turn
+looking c = c .before .before .before
+
+-- ---- what it does, and its outcome
+
+abbrev Acted : Type 0
+Acted = tie.After-effect-of Inv-loop μ-loop
+
+abbrev turn : Acted → Turn
+turn c = looking (c .before .before)
+
+effect-is : (c : Acted) → c .effect-of .result ≡ effectOf (state (turn c)) (task (turn c))
+effect-is c =
+    let s = begun (turn c) in
+    at.effect-is (going (turn c .before)) (s .args .table .now) (s .pre .1 .0) (task (turn c)) (c .effect-of .result) (c .effect-of .ensures)
+
+abbrev Answered : Type 0
+Answered = tie.After-of Inv-loop μ-loop
+
+outcome-is : (c : Answered) (o : Outcome) → c .of .result ≡ o → outcomeOf (c .before .effect-of .result .act) ≡ o
+outcome-is c o e = sym (c .of .ensures) ∙ e
+
+-- ---- a turn that is refused
+
+abbrev refused : tie.After-reason-of Inv-loop μ-loop → Answered
+refused c = c .before .before .before
+
+-- ---- a turn that is made: its row, its tallies, and what it stores
+
+abbrev Made : Type 0
+Made = tie.After-move-byte Inv-loop μ-loop
+
+abbrev told : Made → tie.After-outcome Inv-loop μ-loop
+told c = c .before .before
+
+abbrev answered : Made → Answered
+answered c = told c .before .before
+
+abbrev made : Made → Turn
+made c = turn (answered c .before)
+
+abbrev how : Made → Move
+how c = told c .outcome .given .0 .0
+
+byte-le : (c : Made) → c .move-byte .result ≤ 1
+byte-le c = at.byte-le (how c) (c .move-byte .result) (c .move-byte .ensures)
+
+abbrev row : tie.After-moves Inv-loop μ-loop → tie.After-write-row Inv-loop μ-loop
+row c = c .before .before .before
+
+abbrev moved : tie.After-moves Inv-loop μ-loop → Made
+moved c = row c .before .before
+
+abbrev moves : tie.After-waits Inv-loop μ-loop → tie.After-tally Inv-loop μ-loop
+moves c = c .before
+
+abbrev waited : tie.After-waits Inv-loop μ-loop → Made
+waited c = moved (moves c .before)
+
+abbrev waits : tie.After-next Inv-loop μ-loop → tie.After-tally2 Inv-loop μ-loop
+waits c = c .before
+
+abbrev tallied : tie.After-next Inv-loop μ-loop → Made
+tallied c = waited (waits c .before)
+
+abbrev words : tie.After-place Inv-loop μ-loop → tie.After-arrivals Inv-loop μ-loop
+words c = c .before .before
+
+abbrev own : tie.After-place Inv-loop μ-loop → tie.After-next Inv-loop μ-loop
+own c = words c .before
+
+place-there : (c : tie.After-place Inv-loop μ-loop) → c .place .result < 64
+place-there c =
+    let a = answered (tallied (own c)) .before in
+    rw (c .place .ensures) (at.place-there (next (turn a)) (a .effect-of .result) (effect-is a))
+
+abbrev place : tie.After-task Inv-loop μ-loop → tie.After-place Inv-loop μ-loop
+place c = c .before .before
+
+abbrev done : tie.After-task Inv-loop μ-loop → Turn
+done c = made (tallied (own (place c)))
+
+-- ---- the needs
 
 loop-holds : tie.Need-loop-holds Inv-loop μ-loop
-loop-holds c = (search needs, going-none _ _ _ (c .before .before .pre .0))
+loop-holds c = (search needs, at.going-none _ _ _ (entry c .pre .0))
 
 cast-task : tie.Need-cast-task Inv-loop μ-loop
-cast-task c = omega (arith, c .shared-slice-known2 .given (c .before .before .loop .i))
+cast-task c = omega (arith, own-there (c .before))
 
-mul-line : tie.Need-mul-line Inv-loop μ-loop
-mul-line c = omega (arith, (few (c .before .before .before .before .before .args .t1) (c .before .before .before .before .before .args .schedule .now) (c .before .before .loop .i) (c .before .before .before .before .before .pre .0) (c .before .before .before .before .before .pre .1 .0) (omega arith)))
+mul-own : tie.Need-mul-own Inv-loop μ-loop
+mul-own c = omega (arith, own-there (c .before))
 
-element-copy-out-line : tie.Need-element-copy-out-line Inv-loop μ-loop
-element-copy-out-line c = (few (c .before .before .before .before .before .args .t1) (c .before .before .before .before .before .args .schedule .now) (c .before .before .loop .i) (c .before .before .before .before .before .pre .0) (c .before .before .before .before .before .pre .1 .0) (omega arith))
+element-copy-out-own : tie.Need-element-copy-out-own Inv-loop μ-loop
+element-copy-out-own c = own-there (c .before)
+
+element-copy-out-seen : tie.Need-element-copy-out-seen Inv-loop μ-loop
+element-copy-out-seen c = seen-there (looking c)
 
 same-length : tie.Need-same-length Inv-loop μ-loop
-same-length c = going-long (c .before .before .before .before .before .before .before .loop .inv .1) (omega arith)
+same-length c = log-long (turn (refused (c .before) .before) .before)
 
 returns : tie.Need-returns Inv-loop μ-loop
-returns c = let stop = stop-at (c .before .before .before .before .before .before .before .loop .inv .1) (c .before .before .before .before .before .before .before .before .before .before .pre .1 .0) (omega arith) (c .before .before .before .before .step .result) (c .before .before .before .before .step .ensures) (c .before .enum-told .given .0 .0) (c .before .before .before .before .before .before .before .before .before .before .args .turns) (c .before .enum-told .given .1) (omega arith) in
-    stopped (c .before .before .before .before .before .before .before .loop .inv .1) (c .before .before .before .before .before .before .before .before .before .before .args .end) _ _ (c .reason-of .result) _ _ stop (c .reason-of .ensures ∙ ap reasonNumber (c .before .enum-told .given .1))
+returns c =
+    let r = c .before in
+    let o = refused r in
+    let a = o .before in
+    let t = turn a in
+    let why = r .before .enum-told .given in
+    let stop = at.stopped (next t) (a .effect-of .result) (effect-is a) (begun t .args .end) (why .0 .0) (r .reason-of .result) (begun t .args .turns)
+    (outcome-is o _ (why .1)) (r .reason-of .ensures ∙ ap reasonNumber (why .1)) (t .loop-test .taken) in
+    (c .report .ensures ∙ stop .0, stop .1)
+
+mul-write-row : tie.Need-mul-write-row Inv-loop μ-loop
+mul-write-row c = omega (arith, soon (made c))
 
 sub-write-row : tie.Need-sub-write-row Inv-loop μ-loop
-sub-write-row c = omega (arith, going-long (c .before .before .before .before .before .before .before .before .loop .inv .1) (omega arith))
+sub-write-row c = omega (arith, row-there (made c), log-long (made c .before))
 
 part-write-row-start : tie.Need-part-write-row-start Inv-loop μ-loop
-part-write-row-start c = omega (arith, going-long (c .before .before .before .before .before .before .before .before .loop .inv .1) (omega arith))
+part-write-row-start c = omega (arith, row-there (made c), log-long (made c .before))
 
 write-row-requires : tie.Need-write-row-requires Inv-loop μ-loop
-write-row-requires c κs = omega (arith, going-long (c .before .before .before .before .before .before .before .before .before .loop .inv .1) (omega arith), length-take (length (c .before .before .before .before .before .before .before .before .before .loop .log) - 2 * c .before .before .before .before .before .before .before .before .before .loop .i) (drop (2 * c .before .before .before .before .before .before .before .before .before .loop .i) (c .before .before .before .before .before .before .before .before .before .loop .log)), length-drop (2 * c .before .before .before .before .before .before .before .before .before .loop .i) (c .before .before .before .before .before .before .before .before .before .loop .log))
+write-row-requires c κs =
+    let t = made (c .before) in
+    let log = t .before .loop .log in
+    omega (arith, row-there t, log-long (t .before), length-take (length log - 2 * i t) (drop (2 * i t) log), length-drop (2 * i t) log)
 
 tally-requires : tie.Need-tally-requires Inv-loop μ-loop
-tally-requires c κs = ((few (c .before .before .before .before .before .before .before .before .before .before .before .before .before .before .before .before .args .t1) (c .before .before .before .before .before .before .before .before .before .before .before .before .before .before .before .before .args .schedule .now) (c .before .before .before .before .before .before .before .before .before .before .before .before .before .loop .i) (c .before .before .before .before .before .before .before .before .before .before .before .before .before .before .before .before .pre .0) (c .before .before .before .before .before .before .before .before .before .before .before .before .before .before .before .before .pre .1 .0) (omega arith)), omega (arith, moves-room (c .before .before .before .before .before .before .before .before .before .before .before .before .before .loop .inv .1) _ (few (c .before .before .before .before .before .before .before .before .before .before .before .before .before .before .before .before .args .t1) (c .before .before .before .before .before .before .before .before .before .before .before .before .before .before .before .before .args .schedule .now) (c .before .before .before .before .before .before .before .before .before .before .before .before .before .loop .i) (c .before .before .before .before .before .before .before .before .before .before .before .before .before .before .before .before .pre .0) (c .before .before .before .before .before .before .before .before .before .before .before .before .before .before .before .before .pre .1 .0) (omega arith)), byte-le (c .before .before .before .before .before .before .before .outcome .given .0 .0) _ (c .before .before .before .before .before .move-byte .ensures)))
+tally-requires c κs =
+    let t = made (moved c) in
+    (own-there t, omega (arith, at.moves-room (going (t .before)) (task t) (own-there t), byte-le (moved c), soon t))
 
 sub-tally : tie.Need-sub-tally Inv-loop μ-loop
-sub-tally c = byte-le (c .before .before .before .before .before .before .before .before .before .outcome .given .0 .0) _ (c .before .before .before .before .before .before .before .move-byte .ensures)
+sub-tally c = byte-le (waited c)
 
 tally-requires-2 : tie.Need-tally-requires-2 Inv-loop μ-loop
-tally-requires-2 c κs = ((few (c .before .before .before .before .before .before .before .before .before .before .before .before .before .before .before .before .before .before .args .t1) (c .before .before .before .before .before .before .before .before .before .before .before .before .before .before .before .before .before .before .args .schedule .now) (c .before .before .before .before .before .before .before .before .before .before .before .before .before .before .before .loop .i) (c .before .before .before .before .before .before .before .before .before .before .before .before .before .before .before .before .before .before .pre .0) (c .before .before .before .before .before .before .before .before .before .before .before .before .before .before .before .before .before .before .pre .1 .0) (omega arith)), omega (arith, waits-room (c .before .before .before .before .before .before .before .before .before .before .before .before .before .before .before .loop .inv .1) _ (few (c .before .before .before .before .before .before .before .before .before .before .before .before .before .before .before .before .before .before .args .t1) (c .before .before .before .before .before .before .before .before .before .before .before .before .before .before .before .before .before .before .args .schedule .now) (c .before .before .before .before .before .before .before .before .before .before .before .before .before .before .before .loop .i) (c .before .before .before .before .before .before .before .before .before .before .before .before .before .before .before .before .before .before .pre .0) (c .before .before .before .before .before .before .before .before .before .before .before .before .before .before .before .before .before .before .pre .1 .0) (omega arith))))
+tally-requires-2 c κs =
+    let t = made (waited c) in
+    (own-there t, omega (arith, at.waits-room (going (t .before)) (task t) (own-there t), soon t))
+
+mul-next : tie.Need-mul-next Inv-loop μ-loop
+mul-next c = omega (arith, own-there (made (tallied c)))
+
+element-set-from-next : tie.Need-element-set-from-next Inv-loop μ-loop
+element-set-from-next c = own-there (made (tallied c))
+
+mul-there : tie.Need-mul-there Inv-loop μ-loop
+mul-there c = omega (arith, place-there c)
+
+element-copy-out-there : tie.Need-element-copy-out-there Inv-loop μ-loop
+element-copy-out-there c = place-there c
+
+element-set-from-state : tie.Need-element-set-from-state Inv-loop μ-loop
+element-set-from-state c = place-there (place c)
+
+add-i : tie.Need-add-i Inv-loop μ-loop
+add-i c = omega (arith, soon (done c))
+
+loop-less : tie.Need-loop-less Inv-loop μ-loop
+loop-less c = omega (arith, done c .loop-test .taken)
 
 loop-again : tie.Need-loop-again Inv-loop μ-loop
-loop-again c = (
-  omega arith,
-  goes-on (c .before .before .before .before .before .before .before .before .before .before .before .before .before .before .before .before .loop .inv .1) (c .before .before .before .before .before .before .before .before .before .before .before .before .before .before .before .before .before .before .before .pre .1 .0) (omega arith) (c .before .before .before .before .before .before .before .before .before .before .before .before .before .step .result) (c .before .before .before .before .before .before .before .before .before .before .before .before .before .step .ensures) _ (c .before .before .before .before .before .before .before .before .move-byte .result) _ _ _ (c .before .before .before .before .before .before .before .before .before .before .outcome .given .1) (c .before .before .before .before .before .before .before .before .move-byte .ensures)
-      (few (c .before .before .before .before .before .before .before .before .before .before .before .before .before .before .before .before .before .before .before .args .t1) (c .before .before .before .before .before .before .before .before .before .before .before .before .before .before .before .before .before .before .before .args .schedule .now) (c .before .before .before .before .before .before .before .before .before .before .before .before .before .before .before .before .loop .i) (c .before .before .before .before .before .before .before .before .before .before .before .before .before .before .before .before .before .before .before .pre .0) (c .before .before .before .before .before .before .before .before .before .before .before .before .before .before .before .before .before .before .before .pre .1 .0) (omega arith)) (omega arith) (c .before .before .tally .ensures) (c .tally2 .ensures) (c .before .before .before .before .before .before .write-row .ensures),
-)
+loop-again c =
+    let p = place c in
+    let n = own p in
+    let w = waits n in
+    let v = moves (w .before) in
+    let m = tallied n in
+    let o = answered m in
+    let a = o .before in
+    let t = turn a in
+    let answer = outcome-is o _ (told m .outcome .given .1) in
+    let stores = at.stored-is (state t) (task t) (a .effect-of .result) _ _ _ _
+    (words p .arrivals .ensures) (p .before .sense .ensures) (p .place .ensures) (c .task .ensures) in
+    let on = at.goes-on (next t) (a .effect-of .result) (effect-is a) (how m) answer (m .move-byte .result) _ _ _ _ (m .move-byte .ensures) (row-there t)
+    stores (v .tally .ensures) (w .tally2 .ensures) (row (v .before) .write-row .ensures) in
+    (omega (arith, t .loop-test .taken), on)
 
 same-length-2 : tie.Need-same-length-2 Inv-loop μ-loop
-same-length-2 c = going-long (c .before .loop .inv .1) (omega arith)
+same-length-2 c = log-long (c .before .before)
 
 returns-2 : tie.Need-returns-2 Inv-loop μ-loop
-returns-2 c = let e : c .before .loop .i ≡ c .before .before .before .before .args .turns = omega arith in
-    rw (← e) (finished (c .before .loop .inv .1) (c .before .before .before .before .args .end))
+returns-2 c =
+    let l = c .before in
+    let s = start (l .before) in
+    let all : l .before .loop .i ≡ s .args .turns = omega (arith, l .before .loop .inv .0, l .loop-test .left) in
+    let end = at.finished (going (l .before)) (s .args .end) in
+    (c .report2 .ensures ∙ rw all at (end .0), rw all at (end .1))
 
 pub turns-spec : {M : Type 1} → statement M
 turns-spec =
     tie.close
-    (tie.spec Inv-loop μ-loop loop-holds (λ c. search needs) cast-task mul-line element-copy-out-line
-    (λ c κs. search needs) (λ c. search needs) (λ c. search needs) (λ c κs. search needs) same-length returns
-    (λ c κs. search needs) (λ c. search needs) sub-write-row part-write-row-start (λ c. search needs)
-    write-row-requires tally-requires sub-tally tally-requires-2 (λ c. search needs) (λ c. search needs) loop-again
-    same-length-2 returns-2)
+    (tie.spec Inv-loop μ-loop loop-holds (λ c. search needs) cast-task mul-own element-copy-out-own (λ c. search needs)
+    (λ c. search needs) element-copy-out-seen (λ c κs. search needs) (λ c κs. search needs) (λ c. search needs)
+    (λ c. search needs) (λ c κs. search needs) (λ c κs. search needs) same-length returns (λ c κs. search needs) mul-write-row sub-write-row
+    part-write-row-start (λ c. search needs) write-row-requires tally-requires sub-tally tally-requires-2 mul-next
+    element-set-from-next (λ c κs. search needs) (λ c κs. search needs) (λ c κs. search needs) mul-there
+    element-copy-out-there (λ c κs. search needs) (λ c. omega (arith, place-there (place c)))
+    element-set-from-state add-i loop-less loop-again (λ c κs. search needs) same-length-2 returns-2)

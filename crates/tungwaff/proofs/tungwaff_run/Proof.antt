@@ -1,33 +1,12 @@
--- `tungwaff_run` meets its contract: the reason of the fresh state, or what the run has answered.
-use mathlib.Core.Path.{_≡_}
-use lib.ListN.{length}
+-- `tungwaff_run` meets its contract: it tells what the whole run leaves.
 use borrow.Author.Needs.{needs}
-use borrow.Author.Tests.{ne-eqb, eq-eqb}
-use Rattle.runner.specs.Run.{runOf}
-use Rattle.tungwaff.specs.Entry.{entryReason, entryNumber, entryLog}
 use Rattle.tungwaff.proofs.tungwaff_run.Statement.{statement}
 use Rattle.tungwaff.proofs.tungwaff_run.Tie as tie
 
 returns : tie.Need-returns
-unfolding entryReason entryNumber entryLog
 returns c =
-    let f = c .before .fresh in
-    let o = ne-eqb (f .result .reason) 0 (c .if1 .taken) in
-    (rw (← f .ensures, o), (rw (← f .ensures, o), rw (← f .ensures, o)))
-
-returns-2 : tie.Need-returns-2
-unfolding entryReason entryNumber entryLog
-returns-2 c =
-    let g = c .before .before .before .before in
-    let f = g .before .before .before .fresh in
-    let a = g .before .before .before .before .before .before .before .args in
-    let e : g .run .result ≡ runOf (f .result .state) (a .schedule .now) (length (a .schedule .now)) (a .log .now) = g .run .ensures .0 in
-    let o = eq-eqb (f .result .reason) 0 (g .before .before .if1 .left) in (
-      rw (← f .ensures, o, ← e) (c .ending-reason .ensures),
-      (rw (← f .ensures, o, ← e) (c .before .ending-number .ensures), rw (← f .ensures, o) (g .run .ensures .1)),
-    )
+    let r = c .before .before .whole-run in
+    (rw (r .ensures .0), (rw (r .ensures .0), r .ensures .1))
 
 pub tungwaff-run-spec : {M : Type 1} → statement M
-tungwaff-run-spec =
-    tie.close
-    (tie.spec (λ c κs. search needs) returns (λ c κs. search needs) (λ c κs. search needs) (λ c κs. search needs) (λ c. search needs) returns-2)
+tungwaff-run-spec = tie.close (tie.spec (λ c κs. search needs) (λ c. search needs) returns)

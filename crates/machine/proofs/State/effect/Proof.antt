@@ -1,35 +1,46 @@
--- `machine::State::effect` meets its contract, a return for each kind.
+-- `machine::State::effect` meets its contract: what is read is what the definition has.
 use borrow.Author.Needs.{needs}
 use mathlib.Core.Path.{sym}
+use Prim.Native.Nat.{_≤_, _<_}
 use native.Mathlib.Omega.{arith}
+use lib.ListN.{length}
 use lib.Seq.{length-take-le}
-use borrow.Author.Tests.{ne-eqb}
-use Rattle.machine.proofs.Arrays.{parents-64, take-min}
+use Rattle.machine.specs.Setters.{taskAt}
+use Rattle.machine.specs.Turn.{effectOf}
+use Rattle.machine.specs.RangeLaws.{range}
+use Rattle.machine.specs.KeepLaws.{looked-known}
+use Rattle.machine.proofs.Arrays.{parents-64}
 use Rattle.machine.proofs.State.effect.Statement.{statement}
 use Rattle.machine.proofs.State.effect.Tie as tie
 
-array-share-prefix-parents : tie.Need-array-share-prefix-parents
-array-share-prefix-parents c = omega (arith, c .table-length .ensures, parents-64 (c .before .before .before .args .self) _ (c .before .before .before .good .0))
+-- the task, the one that it looks at and the table are there
+own-there : (c : tie.Start) → c .args .task < 64
+own-there c = omega (arith, range (c .args .t1) (c .pre .0) .few, c .pre .1)
 
-slice-aggregate-line : tie.Need-slice-aggregate-line
-slice-aggregate-line c = sym (length-take-le _ _ (omega (arith, c .before .table-length .ensures, parents-64 (c .before .before .before .before .args .self) _ (c .before .before .before .before .good .0))))
+seen-there : (c : tie.Start) → taskAt (c .args .t1) (c .args .task) .looked < 64
+seen-there c = omega (arith, range (c .args .t1) (c .pre .0) .few, looked-known (c .args .t1) (c .args .task) (c .pre .0) (c .pre .1))
+
+table-there : (c : tie.Start) → c .args .t1 .n ≤ length (c .args .t1 .parents)
+table-there c = omega (arith, range (c .args .t1) (c .pre .0) .few, parents-64 (c .args .t1) _ (c .good .0))
+
+element-copy-out-own : tie.Need-element-copy-out-own
+element-copy-out-own c = own-there c
+
+element-copy-out-seen : tie.Need-element-copy-out-seen
+element-copy-out-seen c = seen-there (c .before .before)
+
+array-share-prefix-parents : tie.Need-array-share-prefix-parents
+array-share-prefix-parents c = table-there (c .before .before .before .before)
+
+slice-aggregate-effect-of : tie.Need-slice-aggregate-effect-of
+slice-aggregate-effect-of c = sym (length-take-le _ _ (table-there (c .before .before .before .before .before)))
 
 returns : tie.Need-returns
-returns c = λ e. rw (c .before .match .keys1, ← e) (c .line .ensures)
-
-returns-2 : tie.Need-returns-2
-returns-2 c = λ e. rw (c .before .match .keys2) (c .line2 .ensures)
-
-returns-3 : tie.Need-returns-3
-returns-3 c = λ e. rw (c .before .match .keys3) (c .line3 .ensures)
-
-returns-4 : tie.Need-returns-4
-returns-4 c = λ e. let s = c .before .before .before .before .before .args .self in
-    let r = c .before .before .before .before .match .rest in
-    rw (ne-eqb _ _ (r .0 .0 .1), ne-eqb _ _ (r .0 .1), ne-eqb _ _ (r .1), ← e, ← take-min (s .n) (s .parents) (parents-64 s _ (c .before .before .before .before .before .good .0)), ← c .before .before .table-length .ensures) (c .line4 .ensures)
+unfolding effectOf
+returns c = c .effect-of .ensures
 
 pub effect-spec : {M : Type 1} → statement M
 effect-spec =
     tie.close
-    (tie.spec (λ c κs. search needs) (λ c κs. search needs) (λ c κs. search needs) (λ c κs. search needs)
-    array-share-prefix-parents slice-aggregate-line (λ c κs. search needs) returns returns-2 returns-3 returns-4)
+    (tie.spec (λ c. search needs) element-copy-out-own (λ c. search needs) (λ c. search needs) element-copy-out-seen
+    (λ c. search needs) array-share-prefix-parents slice-aggregate-effect-of (λ c κs. search needs) returns)

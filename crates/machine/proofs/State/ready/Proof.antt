@@ -10,11 +10,14 @@ returns : tie.Need-returns
 unfolding readyOf
 returns c = rw (← c .before .check .ensures, ne-eqb _ 0 (c .if1 .taken))
 
+able-requires : tie.Need-able-requires
+able-requires c κs = sym (c .before .check .ensures) ∙ c .if1 .left
+
 returns-2 : tie.Need-returns-2
 unfolding readyOf
-returns-2 c = rw (← c .before .before .check .ensures, eq-eqb _ 0 (c .before .if1 .left), c .able .ensures (sym (c .before .before .check .ensures) ∙ c .before .if1 .left))
+returns-2 c = rw (← c .before .before .check .ensures, eq-eqb _ 0 (c .before .if1 .left), c .able .ensures)
 
 pub ready-spec : {M : Type 1} → statement M
 ready-spec =
     tie.close
-    (tie.spec (λ c κs. search needs) returns (λ c κs. search needs) returns-2)
+    (tie.spec (λ c κs. search needs) returns able-requires returns-2)

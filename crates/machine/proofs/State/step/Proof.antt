@@ -1,87 +1,75 @@
--- `machine::State::step` meets its contract, a return for each word that a move can write, and one for what is no move.
+-- `machine::State::step` meets its contract, refused and made: it stores all that the effect has.
 use borrow.Author.Needs.{needs}
-use mathlib.Core.Path.{_≡_, refl, sym, ap, _∙_}
-use mathlib.Core.Logic.{⊎-elim}
-use Prim.Native.Nat.{ℕ, _≤_}
-use lib.ListN.{length, length-set}
-use Rattle.machine.specs.declared.Task.{Task}
+use mathlib.Core.Path.{_≡_, sym, ap, _∙_}
+use Prim.Native.Nat.{_<_}
+use native.Mathlib.Omega.{arith}
+use Rattle.lines.specs.declared.Effect.{Effect}
+use Rattle.machine.specs.declared.Outcome.{Outcome}
 use Rattle.machine.specs.declared.State.{State}
-use Rattle.machine.specs.declared.Write.{Write}
-use Rattle.machine.specs.declared.Write.the-variants.{Nothing, Arrivals, Sense, Toggle, Flag}
-use Rattle.machine.specs.Setters.{withTask}
-use Rattle.machine.specs.Turn.{effectOf, written, stepOf}
-use Rattle.machine.proofs.Arrays.{tasks-64}
-use Rattle.machine.proofs.Steps.{read-effect, store-past, moved-step, unmoved-step}
+use Rattle.lines.specs.Words.{placeOf}
+use Rattle.machine.specs.Turn.{effectOf, outcomeOf}
+use Rattle.machine.specs.TurnLaws.{step-made, step-refused}
+use Rattle.machine.specs.RangeLaws.{range}
+use Rattle.machine.specs.KeepLaws.{place-known}
 use Rattle.machine.proofs.State.step.Statement.{statement}
 use Rattle.machine.proofs.State.step.Tie as tie
 
--- what the step is handed, and that it has 64 tasks
-abbrev start : tie.After-effect → tie.Start
-start c = c .before .before .before .before .before .before .before .before
+-- what the step is handed
+abbrev start : tie.After-of → tie.Start
+start c = c .before .before
 
-long : (c : tie.After-effect) → length (start c .args .t1 .tasks) ≡ 64
-long c = tasks-64 (start c .args .t1) _ (start c .good .0)
+abbrev self : tie.After-of → State
+self c = start c .args .t1
 
-effect-is : (c : tie.After-effect) → c .effect .result ≡ effectOf (start c .args .t1) (start c .args .task)
-effect-is c =
-    read-effect (start c .args .t1) (start c .args .task) _ _ _ _ _ (long c)
-    (c .before .before .before .before .before .before .before .place .ensures .1) (c .before .before .before .before .before .task-at .ensures)
-    (c .before .before .before .place2 .ensures .1) (c .before .task-at2 .ensures) (c .effect .ensures)
+-- the outcome is that of the effect
+outcome-is : (c : tie.After-of) (o : Outcome) → c .of .result ≡ o → outcomeOf (effectOf (self c) (start c .args .task) .act) ≡ o
+outcome-is c o e = sym (c .of .ensures ∙ ap (λ (x : Effect). outcomeOf (x .act)) (c .before .effect .ensures)) ∙ e
 
--- once the own task is stored
-abbrev made : tie.Joined2 → tie.After-effect
-made c = c .before .before .before .before
+-- the own task, and the one that is written to, are there
+own-there : (c : tie.Start) → c .args .task < 64
+own-there c = omega (arith, range (c .args .t1) (c .pre .0) .few, c .pre .1)
 
-stored : (c : tie.Joined2) → c .if2 .self ≡ withTask (start (made c) .args .t1) (start (made c) .args .task) (made c .effect .result .task)
-stored c =
-    ⊎-elim
-    (λ w. w .1)
-    (λ w. w .1 ∙ sym (store-past (start (made c) .args .t1) _ _ (long (made c)) (w .0 .left)))
-    (c .if2 .came)
+abbrev made : tie.After-place → tie.After-of
+made c = c .before .before .before .before .before .before
 
-moved : (c : tie.Joined2) (w : Write) → made c .effect .result .write ≡ w
-    → record { state = written w (c .if2 .self); outcome = made c .effect .result .outcome } ≡ stepOf (start (made c) .args .t1) (start (made c) .args .task)
-moved c w e =
-    moved-step _ _ _ _ w (effect-is (made c)) (sym (c .before .before .before .is-moved .ensures) ∙ c .before .before .if1 .taken) (stored c) e
-
--- a word of a task past the 64 is not written
-past : (c : tie.Joined2) (w : Write) (q : ℕ) (t : Task) → made c .effect .result .write ≡ w → written w (c .if2 .self) ≡ withTask (c .if2 .self) q t → 64 ≤ q
-    → record { state = c .if2 .self; outcome = made c .effect .result .outcome } ≡ stepOf (start (made c) .args .t1) (start (made c) .args .task)
-past c w q t e ew h =
-    ap (λ (s : State). record { state = s; outcome = made c .effect .result .outcome })
-    (sym (ew ∙ store-past (c .if2 .self) q t (ap (λ (s : State). length (s .tasks)) (stored c) ∙ simp length-set (long (made c))) h))
-    ∙ moved c w e
+place-there : (c : tie.After-place) → c .place .result < 64
+place-there c =
+    let s = start (made c) in
+    rw (c .place .ensures, made c .before .effect .ensures)
+    (omega (arith, range (s .args .t1) (s .pre .0) .few, place-known (s .args .t1) (s .args .task) (s .pre .0) (s .pre .1)))
 
 returns : tie.Need-returns
-returns c = moved (c .before .before) Nothing (c .enum-told .given .1)
+returns c =
+    let o = c .before .before in
+    let e = outcome-is o _ (c .enum-told2 .given .1) in
+    rw (c .enum-told2 .given .1) (sym (step-refused (self o) (start o .args .task) _ e))
+
+element-set-from-next : tie.Need-element-set-from-next
+element-set-from-next c = own-there (c .before .before .before .before .before)
+
+mul-there : tie.Need-mul-there
+mul-there c = omega (arith, place-there c)
+
+element-copy-out-there : tie.Need-element-copy-out-there
+element-copy-out-there c = place-there c
+
+mul-t13 : tie.Need-mul-t13
+mul-t13 c = omega (arith, place-there (c .before .before))
+
+element-set-from-self : tie.Need-element-set-from-self
+element-set-from-self c = place-there (c .before .before)
 
 returns-2 : tie.Need-returns-2
-returns-2 c = moved (c .before .before .before) (Arrivals _) (c .before .write .given .1)
-
-returns-3 : tie.Need-returns-3
-returns-3 c = moved (c .before .before .before) (Sense _) (c .before .write2 .given .1)
-
-returns-4 : tie.Need-returns-4
-returns-4 c = moved (c .before .before .before .before .before) (Toggle _ _) (c .before .before .before .write3 .given .1)
-
-returns-5 : tie.Need-returns-5
-returns-5 c = past (c .before .before .before .before) (Toggle _ _) _ _ (c .before .before .write3 .given .1) refl (c .if3 .left)
-
-returns-6 : tie.Need-returns-6
-returns-6 c = moved (c .before .before .before .before .before) (Flag _ _) (c .before .before .before .write4 .given .1)
-
-returns-7 : tie.Need-returns-7
-returns-7 c = past (c .before .before .before .before) (Flag _ _) _ _ (c .before .before .write4 .given .1) refl (c .if4 .left)
-
-returns-8 : tie.Need-returns-8
-returns-8 c = unmoved-step _ _ _ (effect-is (c .before .before)) (sym (c .before .is-moved .ensures) ∙ c .if1 .left)
+returns-2 c =
+    let p = c .before .before in
+    let o = made p in
+    let e = outcome-is o _ (p .before .before .before .before .enum-told .given .1) in
+    rw (c .task .ensures, p .place .ensures, p .before .sense .ensures, p .before .before .arrivals .ensures, o .of .ensures, o .before .effect .ensures)
+    (sym (step-made (self o) (start o .args .task) _ e))
 
 pub step-spec : {M : Type 1} → statement M
 step-spec =
     tie.close
-    (tie.spec (λ c κs. search needs) (λ c. search needs) (λ c. search needs) (λ c κs. search needs) (λ c. search needs)
-    (λ c κs. search needs) (λ c. search needs) (λ c. search needs) (λ c κs. search needs) (λ c κs. search needs)
-    (λ c κs. search needs) (λ c. search needs) (λ c. search needs) (λ c. search needs) (λ c. search needs)
-    (λ c. search needs) (λ c. search needs) (λ c. search needs) (λ c. search needs) (λ c. search needs)
-    (λ c. search needs) (λ c. search needs) returns returns-2 returns-3 returns-4 returns-5 returns-6 returns-7
-    returns-8)
+    (tie.spec (λ c κs. search needs) (λ c κs. search needs) (λ c. search needs) (λ c. search needs) returns
+    (λ c. search needs) element-set-from-next (λ c κs. search needs) (λ c κs. search needs) (λ c κs. search needs)
+    mul-there element-copy-out-there (λ c κs. search needs) mul-t13 element-set-from-self returns-2)

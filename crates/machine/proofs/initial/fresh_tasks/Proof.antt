@@ -2,37 +2,43 @@
 use borrow.Author.Needs.{needs}
 use mathlib.Core.Path.{_≡_}
 use mathlib.Core.List.{_++_}
-use Prim.Native.Nat.{_-_, _≤_}
+use Prim.Native.Nat.{ℕ, _-_, _≤_}
 use native.Mathlib.Omega.{arith}
-use lib.ListN.{replicate, length-replicate, replicate-append-replicate}
-use Rattle.machine.specs.Setters.{zeroTask}
-use Rattle.machine.specs.Fresh.{freshTask}
+use lib.ListN.{replicate}
+use Rattle.bitset.specs.Table.{table}
+use Rattle.bitset.specs.TableLaws.{length-table, table-more}
+use Rattle.lines.specs.declared.Task.{Task}
+use Rattle.lines.specs.Setters.{zeroTask, withLine}
+use Rattle.machine.specs.Fresh.{freshTasks}
 use Rattle.machine.proofs.Arrays.{store-next}
 use Rattle.machine.proofs.initial.fresh_tasks.Statement.{statement}
 use Rattle.machine.proofs.initial.fresh_tasks.Tie as tie
 
+abbrev fresh : ℕ → Task
+fresh q = withLine zeroTask 11
+
 abbrev Inv-loop : tie.InvT-loop
-Inv-loop n fresh all₀ q₀ all q = (q ≤ n) × (all ≡ replicate q fresh ++ replicate (64 - q) zeroTask) × (fresh ≡ freshTask)
+Inv-loop n all₀ q₀ all q = (q ≤ n) × (all ≡ freshTasks q fresh)
 
 abbrev μ-loop : tie.MeasureT-loop
-μ-loop n fresh all₀ q₀ all q = n - q
+μ-loop n all₀ q₀ all q = n - q
 
 loop-holds : tie.Need-loop-holds Inv-loop μ-loop
-loop-holds c = (search needs, c .zero-tasks .ensures, rw (c .before .zero-task .ensures))
+unfolding table
+loop-holds c = (search needs, c .zero-tasks .ensures)
 
 loop-again : tie.Need-loop-again Inv-loop μ-loop
-loop-again c = let q = c .before .loop .q in (
+loop-again c = let q = c .before .before .loop .q in (
   search needs,
-  rw (← replicate-append-replicate q 1, c .before .loop .inv .1) (store-next (replicate q _) 64 q _ zeroTask (length-replicate q _) (omega arith)),
-  c .before .loop .inv .2,
+  rw (table-more q fresh, c .fresh-task .ensures, c .before .before .loop .inv .1) (store-next (table q fresh) 64 q (fresh q) zeroTask (length-table q fresh) (omega arith)),
 )
 
 returns : tie.Need-returns Inv-loop μ-loop
-returns c = let e : c .before .loop .q ≡ c .before .before .before .before .args .n = omega arith in
-    rw (← e, ← c .before .loop .inv .2) (c .before .loop .inv .1)
+returns c = let e : c .before .loop .q ≡ c .before .before .before .args .n = omega arith in
+    rw (← e) (c .before .loop .inv .1)
 
 pub fresh-tasks-spec : {M : Type 1} → statement M
 fresh-tasks-spec =
     tie.close
-    (tie.spec Inv-loop μ-loop (λ c κs. search needs) (λ c κs. search needs) loop-holds (λ c. search needs)
+    (tie.spec Inv-loop μ-loop (λ c κs. search needs) loop-holds (λ c κs. search needs) (λ c. search needs)
     (λ c. search needs) (λ c. search needs) (λ c. search needs) loop-again returns)

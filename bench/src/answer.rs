@@ -1,0 +1,28 @@
+//! What the exported functions take and answer. `library` and `baseline` have the same functions over it.
+
+/// The bytes of a page, which a sheet is printed to.
+pub const PAGE: usize = 2048;
+
+/// What ready's number is where nobody can move.
+pub const NOBODY: usize = 64;
+
+/// A schedule, and what its fresh state is made from.
+#[derive(Clone, Debug)]
+pub struct Start {
+    pub kind: usize,
+    pub n: usize,
+    pub modulus: usize,
+    pub parents: Vec<u8>,
+    pub schedule: Vec<u8>,
+}
+
+/// An answer: the reason of a refusal, 0 if there is none, and the lent number.
+///
+/// The number of a run is that of the turns made, or for reason 9 the place of the first turn that is no task. A turn and ready tell the
+/// run's reason and number where there is a reason. Else the turn's number is 1 if it moved, and 0 if not; ready's is the least task that
+/// can move, or `NOBODY`. The number of passes is that of the pairs, or for reason 9 the place.
+#[derive(Clone, Copy, Debug, PartialEq, Eq)]
+pub struct Answer {
+    pub reason: u8,
+    pub number: usize,
+}

@@ -1,0 +1,19 @@
+//! What of the second program is compared.
+#[allow(dead_code)]
+#[path = "../../second/src/machine.rs"]
+pub mod machine;
+#[allow(dead_code)]
+#[path = "../../second/src/passes.rs"]
+pub mod passes;
+#[allow(dead_code)]
+#[path = "../../second/src/random.rs"]
+pub mod random;
+#[allow(dead_code)]
+#[path = "../../second/src/refusal.rs"]
+pub mod refusal;
+#[allow(dead_code)]
+#[path = "../../second/src/schedules.rs"]
+pub mod schedules;
+#[allow(dead_code)]
+#[path = "../../second/src/sheet.rs"]
+pub mod sheet;

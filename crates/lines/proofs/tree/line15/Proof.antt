@@ -1,0 +1,12 @@
+-- `lines::tree::line15` meets its contract, by those of its calls.
+use borrow.Author.Needs.{needs}
+use Rattle.lines.proofs.tree.line15.Statement.{statement}
+use Rattle.lines.proofs.tree.line15.Tie as tie
+
+returns : tie.Need-returns
+returns c = rw (c .before .flag-up .ensures) at (c .counts .ensures)
+
+pub line15-spec : {M : Type 1} → statement M
+line15-spec =
+    tie.close
+    (tie.spec (λ c κs. search needs) (λ c κs. search needs) returns)

@@ -1,0 +1,33 @@
+-- `whole_run` meets its contract: the reason of the fresh state, or what the run has answered.
+use mathlib.Core.Path.{_≡_}
+use lib.ListN.{length}
+use borrow.Author.Needs.{needs}
+use borrow.Author.Tests.{ne-eqb, eq-eqb}
+use Rattle.runner.specs.Run.{runOf}
+use Rattle.tungwaff.specs.Entry.{wholeRunOf, wholeRunLog}
+use Rattle.tungwaff.proofs.whole_run.Statement.{statement}
+use Rattle.tungwaff.proofs.whole_run.Tie as tie
+
+returns : tie.Need-returns
+unfolding wholeRunOf wholeRunLog
+returns c =
+    let f = c .before .before .fresh in
+    let o = ne-eqb (f .result .reason) 0 (c .if1 .taken) in
+    (rw (← f .ensures, o), rw (← f .ensures, o))
+
+returns-2 : tie.Need-returns-2
+unfolding wholeRunOf wholeRunLog
+returns-2 c =
+    let g = c .before .before .before .before .before in
+    let h = g .before .before in
+    let u = h .before .before in
+    let f = u .fresh in
+    let a = u .before .before .before .before .args in
+    let e : g .run .result ≡ runOf (f .result .state) (a .schedule .now) (length (a .schedule .now)) (a .log .now) = g .run .ensures .0 in
+    let o = eq-eqb (f .result .reason) 0 (h .if1 .left) in
+    (rw (← f .ensures, o, ← e, c .before .ending-reason .ensures, c .ending-number .ensures), rw (← f .ensures, o) (g .run .ensures .1))
+
+pub whole-run-spec : {M : Type 1} → statement M
+whole-run-spec =
+    tie.close
+    (tie.spec (λ c κs. search needs) returns (λ c κs. search needs) (λ c κs. search needs) (λ c κs. search needs) (λ c. search needs) returns-2)
