@@ -1,9 +1,18 @@
 -- What a write makes of each word that it can reach: the arrivals, the sense, and the task that is written to.
+use mathlib.Core.Bool.{Bool, true, false}
 use Prim.Native.Nat.{ℕ}
 use Rattle.lines.specs.declared.Task.{Task}
 use Rattle.lines.specs.declared.Write.{Write}
 use Rattle.lines.specs.declared.Write.the-variants.{Nothing, Arrivals, Sense, Toggle, Flag}
 use Rattle.lines.specs.Setters.{withToggle, withFlag}
+
+-- whether anything is written
+abbrev pub writes : Write → Bool
+writes Nothing = false
+writes (Arrivals x) = true
+writes (Sense x) = true
+writes (Toggle q x) = true
+writes (Flag q x) = true
 
 abbrev pub arrivalsAfter : Write → ℕ → ℕ
 arrivalsAfter Nothing old = old

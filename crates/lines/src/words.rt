@@ -1,10 +1,21 @@
-// What a write makes of each word that it can reach, so that a caller stores all of them and need not ask which. specs/Words.antt defines each.
+// What a write makes of each word that it can reach, so that a caller stores all of them and need not ask which.
+// specs/Words.antt defines each.
 use crate::Task;
 use crate::Write;
 ghost use mathlib.Core.Path.{_≡_};
 ghost use Rattle.lines.specs.Words as defs;
 
 impl Write {
+    // Whether it writes anything: most lines write their own task alone.
+    pub fn writes(self) -> bool
+        ensures { λ r. ⌜ r ≡ defs.writes self ⌝ }
+    {
+        match self {
+            Write::Nothing => false,
+            Write::Arrivals(_) | Write::Sense(_) | Write::Toggle(_, _) | Write::Flag(_, _) => true,
+        }
+    }
+
     // The arrivals after it.
     pub fn arrivals(self, old: u8) -> u8
         ensures { λ r. ⌜ r ≡ defs.arrivalsAfter self old ⌝ }

@@ -1,5 +1,6 @@
 -- Laws of a turn over its definition: by cases, what it leaves as it was, what it never changes, and what it stores.
 use mathlib.Core.Path.{_≡_, refl, sym, ap, _∙_}
+use mathlib.Core.Bool.{false, true≢false}
 use mathlib.Core.List.{List}
 use mathlib.Core.Logic.{_≢_}
 use Prim.Native.Nat.{ℕ, _≤_, _<_}
@@ -23,7 +24,7 @@ use Rattle.lines.specs.Increment.{incrementLine}
 use Rattle.lines.specs.Ring.{ringLine}
 use Rattle.lines.specs.Tree.{treeLine}
 use Rattle.lines.specs.Rule.{effectFrom}
-use Rattle.lines.specs.Words.{arrivalsAfter, senseAfter, placeOf, taskAfter}
+use Rattle.lines.specs.Words.{writes, arrivalsAfter, senseAfter, placeOf, taskAfter}
 use Rattle.lines.specs.LineLaws.{Does, keeps, raises, stays, refused-7, refused-11, does}
 use Rattle.machine.specs.declared.State.{State}
 use Rattle.machine.specs.declared.Move.{Move}
@@ -174,6 +175,17 @@ stored-move (Flag q x) s p u = refl
 -- a wait's effect has the task that stood there, and writes nothing
 stored-stays : (s : State) (p : ℕ) → s ≡ stored s p (waits (taskAt s p))
 stored-stays s p = ap (withTasks s) (sym (set-getD (set (s .tasks) p (taskAt s p)) p zeroTask ∙ set-getD (s .tasks) p zeroTask))
+
+-- where the effect writes nothing, storing its own task is all
+pub stored-own : (s : State) (p : ℕ) (e : Effect) → writes (e .write) ≡ false → withTask s p (e .task) ≡ stored s p e
+stored-own s p e = go (e .write)
+  where
+    go : (w : Write) → writes w ≡ false → withTask s p (e .task) ≡ stored s p (record { act = e .act; task = e .task; write = w })
+    go Nothing none = stored-move Nothing s p (e .task)
+    go (Arrivals x) none = absurd (true≢false none)
+    go (Sense x) none = absurd (true≢false none)
+    go (Toggle q x) none = absurd (true≢false none)
+    go (Flag q x) none = absurd (true≢false none)
 
 -- a turn that is made stores all that its effect has
 pub step-made : (s : State) (p : ℕ) (how : Move) → outcomeOf (effectOf s p .act) ≡ Made how

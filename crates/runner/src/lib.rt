@@ -116,8 +116,8 @@ fn report(state: State, ending: Ending, turns: usize, moves: [u32; 64], waits: [
 }
 
 // Makes the first `turns` turns of the schedule, from a state in range, whose parents are lent as `table`: each turn's answer is taken apart,
-// moved and waited go on, a refusal ends the run. The state stays where it is: a turn reads two tasks, and stores all that its effect has,
-// whether it moves or waits. What waits has the task that stood there, and stores without a test are faster than stores that are skipped.
+// moved and waited go on, a refusal ends the run. The state stays where it is: a turn reads two tasks, and stores what its effect has, whether
+// it moves or waits (what waits has the task that stood there). Which word is written is not asked, only whether one is: most lines write none.
 fn turns(
     mut state: State,
     table: &[u8],
@@ -163,11 +163,13 @@ fn turns(
         let next = effect.task;
         let write = effect.write;
         state.tasks[task] = next;
-        state.arrivals = write.arrivals(state.arrivals);
-        state.sense = write.sense(state.sense);
-        let place = write.place(task);
-        let there = state.tasks[place];
-        state.tasks[place] = write.task(there);
+        if write.writes() {
+            state.arrivals = write.arrivals(state.arrivals);
+            state.sense = write.sense(state.sense);
+            let place = write.place(task);
+            let there = state.tasks[place];
+            state.tasks[place] = write.task(there);
+        }
         i += 1;
     }
     report(state, end, turns, moves, waits)

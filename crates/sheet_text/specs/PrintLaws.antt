@@ -11,23 +11,23 @@ use lib.Dec.{eqb, ltb}
 use lib.ListN.{length, length-append}
 use borrow.Author.Tests.{lt-ltb, le-ltb, ltb-false, ne-eqb}
 use Rattle.bitset.specs.Choice.{pick}
+use Rattle.bitset.specs.ChoiceLaws.{by-test}
 use Rattle.schedule.specs.Passes.{passesOf}
+use Rattle.schedule.specs.PassesLaws.{passes-few}
 use Rattle.machine.specs.declared.State.{State}
 use Rattle.machine.specs.Setters.{taskAt}
-use Rattle.machine.specs.Range.{lastLine, Valid}
+use Rattle.machine.specs.Range.{Valid}
 use Rattle.machine.specs.Least.{least}
-use Rattle.bitset.specs.ChoiceLaws.{by-test}
 use Rattle.machine.specs.TurnLaws.{turn-constants}
 use Rattle.machine.specs.RangeLaws.{line-18, InRange, range}
 use Rattle.machine.specs.KeepLaws.{turn-valid}
 use Rattle.machine.specs.LeastLaws.{least-le}
 use Rattle.runner.specs.Trace.{traceOf}
 use Rattle.runner.specs.Run.{movesIn, waitsIn}
-use Rattle.sheet_text.specs.Print.{decimalIn, decimal, spaced, rowWith, rowOf, rowsBy, refusedWord, placeWord, tableWith, refusalOf}
-use Rattle.sheet_text.specs.Steps.{tableFrom}
-use Rattle.schedule.specs.PassesLaws.{passes-few}
 use Rattle.runner.specs.TraceLaws.{trace-keeps}
 use Rattle.runner.specs.RunLaws.{moves-few, waits-few}
+use Rattle.sheet_text.specs.Print.{decimalIn, decimal, spaced, rowWith, rowOf, rowsBy, refusedWord, placeWord, tableWith, refusalOf}
+use Rattle.sheet_text.specs.Steps.{tableFrom}
 
 -- ---- a number in decimal
 

@@ -11,11 +11,11 @@ use lib.ListN.{length, getD, length-map, List·getD-map}
 use lib.Seq.{ext-getD}
 use borrow.Author.Tests.{lt-ltb, le-ltb, ne-eqb}
 use Rattle.bitset.specs.Choice.{pick}
-use Rattle.schedule.specs.Passes.{unknownAt, allTasks}
-use Rattle.schedule.specs.PassesLaws.{all-known, unknown-alike}
 use Rattle.bitset.specs.ChoiceLaws.{by-test}
 use Rattle.parents.specs.Parents.{checkOf}
 use Rattle.parents.specs.ParentsLaws.{entries-below, check-alike}
+use Rattle.schedule.specs.Passes.{unknownAt, allTasks}
+use Rattle.schedule.specs.PassesLaws.{all-known, unknown-alike}
 use Rattle.machine.specs.Fresh.{Inputs, withParents, freshReason}
 use Rattle.machine.specs.FreshLaws.{Accepted, accepted-inputs, reason-alike}
 use Rattle.sheet_text.specs.Read.{isDigit, isSpace, ended, numbersFrom}

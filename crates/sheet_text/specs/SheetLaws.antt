@@ -9,12 +9,12 @@ use native.Mathlib.Omega.{arith}
 use lib.Dec.{eqb, leb}
 use lib.ListN.{length, length-drop}
 use borrow.Author.Tests.{leb-true, eqb-true}
+use Rattle.bitset.specs.ChoiceLaws.{by-test}
 use Rattle.schedule.specs.Passes.{unknownAt, allTasks}
 use Rattle.schedule.specs.PassesLaws.{all-known}
 use Rattle.lines.specs.declared.Task.{Task}
 use Rattle.machine.specs.Fresh.{freshReason, freshState, freshTask}
 use Rattle.machine.specs.FreshLaws.{fresh-at, fresh-valid, fresh-accepted}
-use Rattle.bitset.specs.ChoiceLaws.{by-test}
 use Rattle.runner.specs.Trace.{nothing}
 use Rattle.guarantee.specs.Calls.{Reached, fresh}
 use Rattle.guarantee.specs.Done.{turns-done}

@@ -9,8 +9,10 @@ use lib.ListN.{length, take, drop, getD, length-map}
 use lib.Seq.{take-at, take-length}
 use borrow.Author.Tests.{le-leb, eq-eqb, ne-eqb}
 use Rattle.bitset.specs.Choice.{pick}
+use Rattle.bitset.specs.TableLaws.{table-at}
 use Rattle.schedule.specs.Passes.{passesOf, unknownAt, allTasks, passesAnswer}
 use Rattle.schedule.specs.declared.answer.Passes.the-variants.{Count, Refused}
+use Rattle.schedule.specs.PassesLaws.{passes-few}
 use Rattle.machine.specs.declared.State.{State}
 use Rattle.machine.specs.Fresh.{freshReason, freshState, freshOf}
 use Rattle.machine.specs.FreshLaws.{accepted-inputs, fresh-accepted}
@@ -20,14 +22,12 @@ use Rattle.machine.specs.Least.{leastUpTo, least}
 use Rattle.runner.specs.declared.Ran.{Ran}
 use Rattle.runner.specs.Trace.{Trace, traceOf}
 use Rattle.runner.specs.Run.{movesIn, waitsIn, unstopped, runReason, ranOf, runOf}
-use Rattle.bitset.specs.TableLaws.{table-at}
 use Rattle.sheet_text.specs.declared.Cut.{Cut}
 use Rattle.sheet_text.specs.Cut.{cutOf}
 use Rattle.sheet_text.specs.Read.{Five, five, refused, readNumbers, checked, fiveOf}
 use Rattle.sheet_text.specs.Print.{rowOf, rowsBy, tableWith, refusalOf, tableOf, printed}
 use Rattle.sheet_text.specs.Steps.{low, ranRow, tableFrom, sheetFrom}
 use Rattle.sheet_text.specs.ReadLaws.{lowInputs, low-reason, low-inputs, low-unknown, low-turns}
-use Rattle.schedule.specs.PassesLaws.{passes-few}
 use Rattle.sheet_text.specs.PrintLaws.{rows-same, same-n}
 
 -- ---- the parts of the bytes: parents, then turns

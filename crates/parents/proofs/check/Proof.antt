@@ -8,7 +8,6 @@ use mathlib.Core.Path.{_≡_, refl, sym, _∙_}
 use Prim.Native.Nat.{_≤_, _-_}
 use native.Mathlib.Omega.{arith}
 use borrow.Author.Tests.{not-true, not-false}
-use Rattle.parents.specs.ParentsLaws.{check-length, check-entry, check-all, entries-more}
 use Rattle.parents.proofs.check.Statement.{statement}
 use Rattle.parents.proofs.check.Tie as tie
 

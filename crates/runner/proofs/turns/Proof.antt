@@ -2,6 +2,7 @@
 -- A place of the code is reached from a later one by a name, and a fact stands at the first place that has it: a new place changes one name.
 use borrow.Author.Needs.{needs}
 use mathlib.Core.Path.{_≡_, sym, ap, _∙_}
+use mathlib.Core.Logic.{⊎-elim}
 use Prim.Native.Nat.{ℕ, _+_, _*_, _-_, _≤_, _<_}
 use native.Mathlib.Omega.{arith}
 use lib.ListN.{length, getD, drop, length-take, length-drop}
@@ -10,6 +11,7 @@ use Rattle.machine.specs.declared.Outcome.{Outcome}
 use Rattle.machine.specs.declared.State.{State}
 use Rattle.machine.specs.Setters.{taskAt}
 use Rattle.machine.specs.Turn.{effectOf, outcomeOf, reasonNumber}
+use Rattle.machine.specs.TurnLaws.{stored, stored-own}
 use Rattle.schedule.specs.Passes.{maxTurns}
 use Rattle.runner.proofs.Going as at
 use Rattle.runner.proofs.turns.Statement.{statement}
@@ -154,7 +156,7 @@ abbrev words : tie.After-place Inv-loop μ-loop → tie.After-arrivals Inv-loop 
 words c = c .before .before
 
 abbrev own : tie.After-place Inv-loop μ-loop → tie.After-next Inv-loop μ-loop
-own c = words c .before
+own c = words c .before .before .before
 
 place-there : (c : tie.After-place Inv-loop μ-loop) → c .place .result < 64
 place-there c =
@@ -164,8 +166,24 @@ place-there c =
 abbrev place : tie.After-task Inv-loop μ-loop → tie.After-place Inv-loop μ-loop
 place c = c .before .before
 
-abbrev done : tie.After-task Inv-loop μ-loop → Turn
-done c = made (tallied (own (place c)))
+-- all is stored, with a word or without
+abbrev Stored : Type 0
+Stored = tie.Joined1 Inv-loop μ-loop
+
+abbrev kept : Stored → Made
+kept c = tallied (c .before .before)
+
+abbrev done : Stored → Turn
+done c = made (kept c)
+
+stores : (c : Stored) → c .if1 .state ≡ stored (state (done c)) (task (done c)) (answered (kept c) .before .effect-of .result)
+stores c =
+    let t = done c in
+    let e = answered (kept c) .before .effect-of .result in
+    ⊎-elim
+    (λ w. w .6 ∙ at.stored-is (state t) (task t) e _ _ _ _ (w .1 .ensures) (w .2 .ensures) (w .3 .ensures) (w .5 .ensures))
+    (λ w. w .1 ∙ stored-own (state t) (task t) e (sym (c .before .writes .ensures) ∙ w .0 .left))
+    (c .if1 .came)
 
 -- ---- the needs
 
@@ -249,19 +267,16 @@ loop-less c = omega (arith, done c .loop-test .taken)
 
 loop-again : tie.Need-loop-again Inv-loop μ-loop
 loop-again c =
-    let p = place c in
-    let n = own p in
+    let n = c .before .before in
     let w = waits n in
     let v = moves (w .before) in
-    let m = tallied n in
+    let m = kept c in
     let o = answered m in
     let a = o .before in
     let t = turn a in
     let answer = outcome-is o _ (told m .outcome .given .1) in
-    let stores = at.stored-is (state t) (task t) (a .effect-of .result) _ _ _ _
-    (words p .arrivals .ensures) (p .before .sense .ensures) (p .place .ensures) (c .task .ensures) in
     let on = at.goes-on (next t) (a .effect-of .result) (effect-is a) (how m) answer (m .move-byte .result) _ _ _ _ (m .move-byte .ensures) (row-there t)
-    stores (v .tally .ensures) (w .tally2 .ensures) (row (v .before) .write-row .ensures) in
+    (stores c) (v .tally .ensures) (w .tally2 .ensures) (row (v .before) .write-row .ensures) in
     (omega (arith, t .loop-test .taken), on)
 
 same-length-2 : tie.Need-same-length-2 Inv-loop μ-loop
@@ -282,6 +297,6 @@ turns-spec =
     (λ c. search needs) element-copy-out-seen (λ c κs. search needs) (λ c κs. search needs) (λ c. search needs)
     (λ c. search needs) (λ c κs. search needs) (λ c κs. search needs) same-length returns (λ c κs. search needs) mul-write-row sub-write-row
     part-write-row-start (λ c. search needs) write-row-requires tally-requires sub-tally tally-requires-2 mul-next
-    element-set-from-next (λ c κs. search needs) (λ c κs. search needs) (λ c κs. search needs) mul-there
+    element-set-from-next (λ c κs. search needs) (λ c κs. search needs) (λ c κs. search needs) (λ c κs. search needs) mul-there
     element-copy-out-there (λ c κs. search needs) (λ c. omega (arith, place-there (place c)))
     element-set-from-state add-i loop-less loop-again (λ c κs. search needs) same-length-2 returns-2)

@@ -66,6 +66,10 @@ Inv-loop n schedule every seen₀ count₀ i₀ seen count i = Counting n schedu
 abbrev μ-loop : tie.MeasureT-loop
 μ-loop n schedule every seen₀ count₀ i₀ seen count i = length schedule - i
 
+-- the turn that is looked at
+abbrev turn : tie.Else1 Inv-loop μ-loop → tie.In-loop Inv-loop μ-loop
+turn c = c .before .before
+
 loop-holds : tie.Need-loop-holds Inv-loop μ-loop
 loop-holds c =
     record { since = []; named = seen-none (c .before .before .args .n); within = omega arith; few = omega arith; unknown = omega arith; passes = omega arith }
@@ -75,35 +79,37 @@ cast-task c = omega (arith, c .shared-slice-known2 .given (c .before .before .lo
 
 returns : tie.Need-returns Inv-loop μ-loop
 returns c =
-    let l = c .before .before .before in
-    refused (l .loop .inv) (c .before .before .loop-test .taken) (c .if1 .taken)
+    let t = c .before .before in
+    refused (t .before .loop .inv) (t .loop-test .taken) (c .if1 .taken)
 
 add-count : tie.Need-add-count Inv-loop μ-loop
-add-count c = omega (arith, c .before .before .before .before .before .loop .inv .few)
+add-count c = omega (arith, turn (c .before .before) .before .loop .inv .few)
 
 loop-less : tie.Need-loop-less Inv-loop μ-loop
 loop-less c = omega arith
 
 loop-again : tie.Need-loop-again Inv-loop μ-loop
 loop-again c =
-    let l = c .before .before .before .before .before in
-    ended (l .loop .inv) (l .before .before .before .pre) (c .before .before .before .before .loop-test .taken) (c .before .before .if1 .left)
-    (sym (c .before .with .ensures) ∙ c .if2 .taken ∙ l .before .all .ensures)
+    let w = c .before in
+    let t = turn (w .before) in
+    let l = t .before in
+    ended (l .loop .inv) (l .before .before .before .pre) (t .loop-test .taken) (w .before .if1 .left)
+    (sym (w .with .ensures) ∙ c .if2 .taken ∙ l .before .all .ensures)
 
 loop-less-2 : tie.Need-loop-less-2 Inv-loop μ-loop
 loop-less-2 c = omega arith
 
 loop-again-2 : tie.Need-loop-again-2 Inv-loop μ-loop
 loop-again-2 c =
-    let l = c .before .before .before .before .before in
-    rw (c .before .with .ensures)
-    (not-yet (l .loop .inv) (l .before .before .before .pre) (c .before .before .before .before .loop-test .taken) (c .before .before .if1 .left)
-    (λ e. c .if2 .left (c .before .with .ensures ∙ e ∙ sym (l .before .all .ensures))))
+    let w = c .before in
+    let t = turn (w .before) in
+    let l = t .before in
+    rw (w .with .ensures)
+    (not-yet (l .loop .inv) (l .before .before .before .pre) (t .loop-test .taken) (w .before .if1 .left)
+    (λ e. c .if2 .left (w .with .ensures ∙ e ∙ sym (l .before .all .ensures))))
 
 returns-2 : tie.Need-returns-2 Inv-loop μ-loop
-returns-2 c =
-    let l = c .before in
-    counted (l .loop .inv) (c .loop-test .left)
+returns-2 c = counted (c .before .loop .inv) (c .loop-test .left)
 
 pub count-spec : {M : Type 1} → statement M
 count-spec =

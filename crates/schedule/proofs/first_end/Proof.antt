@@ -60,6 +60,25 @@ Inv-loop n schedule place every seen₀ i₀ seen i = Walking n schedule place s
 abbrev μ-loop : tie.MeasureT-loop
 μ-loop n schedule place every seen₀ i₀ seen i = length schedule - i
 
+-- ---- the places: what is handed over, the bounds on n, and the turn that is looked at
+
+abbrev start : tie.Else2 Inv-loop μ-loop → tie.Start Inv-loop μ-loop
+start c = c .before .before .before
+
+low : (c : tie.Else2 Inv-loop μ-loop) → 1 ≤ start c .args .n
+low c = c .before .if1 .left
+
+high : (c : tie.Else2 Inv-loop μ-loop) → start c .args .n ≤ 64
+high c = c .if2 .left
+
+abbrev bounded : tie.At-loop Inv-loop μ-loop → tie.Else2 Inv-loop μ-loop
+bounded c = c .before .before
+
+abbrev turn : tie.Else3 Inv-loop μ-loop → tie.In-loop Inv-loop μ-loop
+turn c = c .before .before
+
+-- ---- the needs
+
 returns : tie.Need-returns Inv-loop μ-loop
 unfolding firstPassOf
 returns c =
@@ -73,55 +92,59 @@ returns-2 c =
     empty (a .n) (a .place) (a .schedule .now) (rw (le-leb 1 (a .n) (c .before .if1 .left), lt-leb (a .n) 64 (c .if2 .taken)))
 
 loop-holds : tie.Need-loop-holds Inv-loop μ-loop
-loop-holds c =
-    record { since = []; named = seen-none (c .before .before .before .before .args .n); walked = omega arith; tasks = refl; passes = refl }
+loop-holds c = record { since = []; named = seen-none (start (c .before) .args .n); walked = omega arith; tasks = refl; passes = refl }
 
 cast-task : tie.Need-cast-task Inv-loop μ-loop
 cast-task c = omega (arith, c .shared-slice-known2 .given (c .before .before .loop .i))
 
 returns-3 : tie.Need-returns-3 Inv-loop μ-loop
 returns-3 c =
-    let l = c .before .before .before in
-    let a = l .before .before .before .before .before .args in
+    let t = c .before .before in
+    let l = t .before in
+    let b = bounded l in
+    let a = start b .args in
     empty (a .n) (a .place) (a .schedule .now)
-    (unknown (l .loop .inv) (l .before .before .before .if1 .left) (l .before .before .if2 .left)
-    (not-all-tasks (a .n) (a .schedule .now) (l .loop .i) (c .before .before .loop-test .taken) (c .if3 .taken)))
+    (unknown (l .loop .inv) (low b) (high b) (not-all-tasks (a .n) (a .schedule .now) (l .loop .i) (t .loop-test .taken) (c .if3 .taken)))
 
 returns-4 : tie.Need-returns-4 Inv-loop μ-loop
 returns-4 c =
-    let l = c .before .before .before .before .before .before .before in
-    let a = l .before .before .before .before .before .args in
-    ended (l .loop .inv) (l .before .before .before .if1 .left) (l .before .before .if2 .left)
-    (c .before .before .before .before .before .before .loop-test .taken) (c .before .before .before .before .if3 .left)
-    (sym (c .before .before .before .with .ensures) ∙ c .before .before .if4 .taken ∙ l .before .all .ensures)
-    (sym (c .before .known .ensures) ∙ c .if5 .taken)
+    let k = c .before in
+    let w = k .before .before in
+    let t = turn (w .before) in
+    let l = t .before in
+    let b = bounded l in
+    ended (l .loop .inv) (low b) (high b) (t .loop-test .taken) (w .before .if3 .left)
+    (sym (w .with .ensures) ∙ k .before .if4 .taken ∙ l .before .all .ensures) (sym (k .known .ensures) ∙ c .if5 .taken)
 
 returns-5 : tie.Need-returns-5 Inv-loop μ-loop
 returns-5 c =
-    let l = c .before .before .before .before .before .before .before in
-    let a = l .before .before .before .before .before .args in
+    let e = c .before .before .before .before in
+    let t = turn e in
+    let l = t .before in
+    let b = bounded l in
+    let a = start b .args in
     empty (a .n) (a .place) (a .schedule .now)
-    (unknown-later (l .loop .inv) (l .before .before .before .if1 .left) (l .before .before .if2 .left)
-    (c .before .before .before .before .before .before .loop-test .taken) (c .before .before .before .before .if3 .left)
-    (sym (c .before .known .ensures) ∙ c .if5 .left))
+    (unknown-later (l .loop .inv) (low b) (high b) (t .loop-test .taken) (e .if3 .left) (sym (c .before .known .ensures) ∙ c .if5 .left))
 
 loop-less : tie.Need-loop-less Inv-loop μ-loop
 loop-less c = omega arith
 
 loop-again : tie.Need-loop-again Inv-loop μ-loop
 loop-again c =
-    let l = c .before .before .before .before .before in
-    let a = l .before .before .before .before .before .args in
-    rw (c .before .with .ensures)
-    (not-yet (l .loop .inv) (l .before .before .before .if1 .left) (l .before .before .if2 .left)
-    (c .before .before .before .before .loop-test .taken) (c .before .before .if3 .left)
-    (λ e. c .if4 .left (c .before .with .ensures ∙ e ∙ sym (l .before .all .ensures))))
+    let w = c .before in
+    let t = turn (w .before) in
+    let l = t .before in
+    let b = bounded l in
+    rw (w .with .ensures)
+    (not-yet (l .loop .inv) (low b) (high b) (t .loop-test .taken) (w .before .if3 .left)
+    (λ e. c .if4 .left (w .with .ensures ∙ e ∙ sym (l .before .all .ensures))))
 
 returns-6 : tie.Need-returns-6 Inv-loop μ-loop
 returns-6 c =
     let l = c .before in
-    let a = l .before .before .before .before .before .args in
-    empty (a .n) (a .place) (a .schedule .now) (over (l .loop .inv) (l .before .before .before .if1 .left) (l .before .before .if2 .left) (c .loop-test .left))
+    let b = bounded l in
+    let a = start b .args in
+    empty (a .n) (a .place) (a .schedule .now) (over (l .loop .inv) (low b) (high b) (c .loop-test .left))
 
 pub first-end-spec : {M : Type 1} → statement M
 first-end-spec =

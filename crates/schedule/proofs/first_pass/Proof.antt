@@ -12,7 +12,10 @@ use Rattle.schedule.specs.FirstPassLaws.{first-part}
 use Rattle.schedule.proofs.first_pass.Statement.{statement}
 use Rattle.schedule.proofs.first_pass.Tie as tie
 
-begin : (c : tie.Joined1) → c .if1 .at ≡ min (c .before .before .args .place) (length (c .before .before .args .schedule .now))
+abbrev start : tie.Joined1 → tie.Start
+start c = c .before .before
+
+begin : (c : tie.Joined1) → c .if1 .at ≡ min (start c .args .place) (length (start c .args .schedule .now))
 begin c = ⊎-elim (λ w. omega arith) (λ w. omega arith) (c .if1 .came)
 
 -- the answer depends on no more than the turns from the place on
@@ -31,16 +34,19 @@ within n place ts = omega (arith, simp (length-take, length-drop) at (ap length 
 
 part-result-end : tie.Need-part-result-end
 part-result-end c =
-    let a = c .before .before .before .before .args in
-    omega (arith, begin (c .before .before), within (a .n) (c .before .before .if1 .at) (a .schedule .now))
+    let j = c .before .before in
+    let a = start j .args in
+    omega (arith, begin j, within (a .n) (j .if1 .at) (a .schedule .now))
 
 returns : tie.Need-returns
 returns c =
-    let a = c .before .before .before .before .before .args in
-    let at : ℕ = c .before .before .before .if1 .at in
-    let end : c .before .before .first-end .result - at ≡ length (firstPassOf (a .n) at (a .schedule .now)) = omega (arith, c .before .before .first-end .ensures) in
-    let same = ap (λ (p : ℕ). firstPassOf (a .n) p (a .schedule .now)) (begin (c .before .before .before)) ∙ same-part (a .n) (a .place) (a .schedule .now) in
-    (rw end (sym (first-part (a .n) at (a .schedule .now)) ∙ same), (refl, omega (arith, begin (c .before .before .before))))
+    let e = c .before .before in
+    let j = e .before in
+    let a = start j .args in
+    let at : ℕ = j .if1 .at in
+    let end : e .first-end .result - at ≡ length (firstPassOf (a .n) at (a .schedule .now)) = omega (arith, e .first-end .ensures) in
+    let same = ap (λ (p : ℕ). firstPassOf (a .n) p (a .schedule .now)) (begin j) ∙ same-part (a .n) (a .place) (a .schedule .now) in
+    (rw end (sym (first-part (a .n) at (a .schedule .now)) ∙ same), (refl, omega (arith, begin j)))
 
 pub first-pass-spec : {M : Type 1} → statement M
 first-pass-spec =

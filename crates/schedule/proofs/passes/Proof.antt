@@ -62,6 +62,22 @@ module _ (n : ℕ) (ts pairs : List ℕ) where
           rw (le-leb 1 n low, le-leb n 64 high, le-leb (length ts) maxTurns short, t .0, room, t .1) in
           (a, rw (← a))
 
+-- ---- the places, and what `count` has told where it has counted
+
+abbrev begun : tie.Else1 → tie.Start
+begun c = c .before .before .before
+
+abbrev start : tie.Else3 → tie.Start
+start c = begun (c .before .before)
+
+abbrev asked : tie.After-counted → tie.Else3
+asked c = c .before .before .before
+
+counted : (c : tie.After-counted) → let a = start (asked c) .args in Count (c .counted .given .0 .0) ≡ countAnswer (a .n) (a .schedule .now)
+counted c = sym (c .counted .given .1) ∙ c .before .before .count .ensures
+
+-- ---- the needs
+
 returns : tie.Need-returns
 unfolding passesAnswer
 returns c =
@@ -71,53 +87,49 @@ returns c =
 returns-2 : tie.Need-returns-2
 unfolding passesAnswer
 returns-2 c =
-    let a = c .before .before .before .before .args in
+    let a = begun (c .before) .args in
     refused (a .n) (a .schedule .now) (a .pairs .now) _ 3 0 refl (rw (le-leb 1 (a .n) (c .before .if1 .left), lt-leb (a .n) 64 (c .if2 .taken)))
 
 returns-3 : tie.Need-returns-3
 unfolding passesAnswer
 returns-3 c =
-    let a = c .before .before .before .before .before .args in
+    let a = begun (c .before .before) .args in
     refused (a .n) (a .schedule .now) (a .pairs .now) _ 8 0 refl
     (rw (le-leb 1 (a .n) (c .before .before .if1 .left), le-leb (a .n) 64 (c .before .if2 .left), lt-leb (length (a .schedule .now)) maxTurns (c .if3 .taken)))
 
 returns-4 : tie.Need-returns-4
 returns-4 c =
     let p = c .before .before in
-    let a = p .before .before .before .before .before .before .args in
+    let s = p .before in
+    let a = start s .args in
     let v = c .enum-told .given in
-    refused-9 (a .n) (a .schedule .now) (a .pairs .now) (p .before .before .before .if1 .left) (p .before .before .if2 .left) (p .before .if3 .left)
+    refused-9 (a .n) (a .schedule .now) (a .pairs .now) (s .before .before .if1 .left) (s .before .if2 .left) (s .if3 .left)
     (p .count .result) (v .0 .0) (v .0 .1 .0) (v .1) (p .count .ensures)
-
--- what `count` has told where it has counted
-counted : (c : tie.After-counted) → let p = c .before .before in let a = p .before .before .before .before .before .before .args in
-    Count (c .counted .given .0 .0) ≡ countAnswer (a .n) (a .schedule .now)
-counted c = sym (c .counted .given .1) ∙ c .before .before .count .ensures
 
 returns-5 : tie.Need-returns-5
 returns-5 c =
     let v = c .before .before in
-    let p = v .before .before in
-    let a = p .before .before .before .before .before .before .args in
+    let s = asked v in
+    let a = start s .args in
     refused (a .n) (a .schedule .now) (a .pairs .now) _ 10 0 refl
-    (refused-10 (a .n) (a .schedule .now) (a .pairs .now) (p .before .before .before .if1 .left) (p .before .before .if2 .left) (p .before .if3 .left)
+    (refused-10 (a .n) (a .schedule .now) (a .pairs .now) (s .before .before .if1 .left) (s .before .if2 .left) (s .if3 .left)
     (v .counted .given .0 .0) (counted v) (c .if4 .taken))
 
 write-requires : tie.Need-write-requires
 write-requires c κs =
     let v = c .before .before .before in
-    let p = v .before .before in
-    let a = p .before .before .before .before .before .before .args in
+    let s = asked v in
+    let a = start s .args in
     let t = told-count (a .n) (a .schedule .now) (v .counted .given .0 .0) (counted v) in
-    (p .before .before .if2 .left, (p .before .if3 .left, (t .0, omega (arith, t .1, c .before .if4 .left))))
+    (s .before .if2 .left, (s .if3 .left, (t .0, omega (arith, t .1, c .before .if4 .left))))
 
 returns-6 : tie.Need-returns-6
 returns-6 c =
     let r = c .before .before .before .before in
     let v = r .before .before in
-    let p = v .before .before in
-    let a = p .before .before .before .before .before .before .args in
-    let m = accepted (a .n) (a .schedule .now) (a .pairs .now) (p .before .before .before .if1 .left) (p .before .before .if2 .left) (p .before .if3 .left)
+    let s = asked v in
+    let a = start s .args in
+    let m = accepted (a .n) (a .schedule .now) (a .pairs .now) (s .before .before .if1 .left) (s .before .if2 .left) (s .if3 .left)
     (v .counted .given .0 .0) (counted v) (r .if4 .left) in
     (m .0, c .before .before .write .ensures ∙ m .1)
 

@@ -95,24 +95,30 @@ Inv-loop n schedule pairs₀ every seen₀ begin₀ at₀ i₀ pairs seen begin 
 abbrev μ-loop : tie.MeasureT-loop
 μ-loop n schedule pairs₀ every seen₀ begin₀ at₀ i₀ pairs seen begin at i = length schedule - i
 
+-- what is handed over, and the turn that is looked at
+abbrev start : tie.At-loop Inv-loop μ-loop → tie.Start Inv-loop μ-loop
+start c = c .before .before .before .before
+
+abbrev looked : tie.After-with Inv-loop μ-loop → tie.In-loop Inv-loop μ-loop
+looked c = c .before .before
+
 -- every turn is a task
-turn : (c : tie.In-loop Inv-loop μ-loop) → let s = c .before .before .before .before .before in getD (s .args .schedule .now) (c .before .loop .i) 0 < s .args .n
+turn : (c : tie.In-loop Inv-loop μ-loop) → let s = start (c .before) in getD (s .args .schedule .now) (c .before .loop .i) 0 < s .args .n
 turn c =
-    let s = c .before .before .before .before .before in
+    let s = start (c .before) in
     all-known (s .args .n) (s .args .schedule .now) .0 (s .pre .1 .1 .0) (c .before .loop .i) (c .loop-test .taken)
 
 -- where the pass ends, the set is that of all tasks, and there is room for the pair
 module _ (c : tie.Then1 Inv-loop μ-loop) where
-  full : let l = c .before .before .before .before in let s = l .before .before .before .before in
-      withOf (l .loop .seen) (getD (s .args .schedule .now) (l .loop .i) 0) ≡ allOf (s .args .n)
-  full = sym (c .before .with .ensures) ∙ c .if1 .taken ∙ c .before .before .before .before .before .all .ensures
+  full : let l = looked (c .before) .before in
+      withOf (l .loop .seen) (getD (start l .args .schedule .now) (l .loop .i) 0) ≡ allOf (start l .args .n)
+  full = sym (c .before .with .ensures) ∙ c .if1 .taken ∙ looked (c .before) .before .before .all .ensures
 
-  room : let l = c .before .before .before .before in (l .loop .at + 2 ≤ length (l .loop .pairs)) × (length (l .loop .pairs) * 4 < 2 ^ 63)
+  room : let l = looked (c .before) .before in (l .loop .at + 2 ≤ length (l .loop .pairs)) × (length (l .loop .pairs) * 4 < 2 ^ 63)
   room =
-      let l = c .before .before .before .before in
-      let s = l .before .before .before .before in
-      let i = c .before .before .before in
-      (two-more (l .loop .inv) (s .pre .0) (i .loop-test .taken) (turn i) full, omega (arith, l .loop .inv .same, s .good))
+      let t = looked (c .before) in
+      let l = t .before in
+      (two-more (l .loop .inv) (start l .pre .0) (t .loop-test .taken) (turn t) full, omega (arith, l .loop .inv .same, start l .good))
 
 loop-holds : tie.Need-loop-holds Inv-loop μ-loop
 loop-holds c =
@@ -132,9 +138,8 @@ cast-with c = omega (arith, c .shared-slice-known2 .given (c .before .before .lo
 
 cast-pairs : tie.Need-cast-pairs Inv-loop μ-loop
 cast-pairs c =
-    let l = c .before .before .before .before in
-    let s = l .before .before .before .before in
-    omega (arith, l .loop .inv .walked, c .before .before .before .loop-test .taken, s .pre .1 .0)
+    let t = looked (c .before) in
+    omega (arith, t .before .loop .inv .walked, t .loop-test .taken, start (t .before) .pre .1 .0)
 
 mul-pairs : tie.Need-mul-pairs Inv-loop μ-loop
 mul-pairs c = omega (arith, room c)
@@ -143,7 +148,7 @@ slice-write-pairs : tie.Need-slice-write-pairs Inv-loop μ-loop
 slice-write-pairs c = omega (arith, room c)
 
 sub-pairs : tie.Need-sub-pairs Inv-loop μ-loop
-sub-pairs c = omega (arith, c .before .before .before .before .loop .inv .walked)
+sub-pairs c = omega (arith, looked (c .before) .before .loop .inv .walked)
 
 add-pairs : tie.Need-add-pairs Inv-loop μ-loop
 add-pairs c = omega (arith, room c)
@@ -162,29 +167,26 @@ loop-less c = omega arith
 
 loop-again : tie.Need-loop-again Inv-loop μ-loop
 loop-again c =
-    let l = c .before .before .before .before in
-    let s = l .before .before .before .before in
-    ended (l .loop .inv) (s .pre .0) (c .before .before .before .loop-test .taken) (turn (c .before .before .before)) (full c)
+    let t = looked (c .before) in
+    ended (t .before .loop .inv) (start (t .before) .pre .0) (t .loop-test .taken) (turn t) (full c)
 
 loop-less-2 : tie.Need-loop-less-2 Inv-loop μ-loop
 loop-less-2 c = omega arith
 
 loop-again-2 : tie.Need-loop-again-2 Inv-loop μ-loop
 loop-again-2 c =
-    let l = c .before .before .before .before in
-    let s = l .before .before .before .before in
-    rw (c .before .with .ensures)
-    (not-yet (l .loop .inv) (s .pre .0) (c .before .before .before .loop-test .taken) (turn (c .before .before .before))
-    (λ e. c .if1 .left (c .before .with .ensures ∙ e ∙ sym (l .before .all .ensures))))
+    let w = c .before in
+    let t = looked w in
+    let l = t .before in
+    rw (w .with .ensures)
+    (not-yet (l .loop .inv) (start l .pre .0) (t .loop-test .taken) (turn t)
+    (λ e. c .if1 .left (w .with .ensures ∙ e ∙ sym (l .before .all .ensures))))
 
 same-length : tie.Need-same-length Inv-loop μ-loop
 same-length c = c .before .loop .inv .same
 
 returns : tie.Need-returns Inv-loop μ-loop
-returns c =
-    let l = c .before in
-    let s = l .before .before .before .before in
-    written (l .loop .inv) (c .loop-test .left)
+returns c = written (c .before .loop .inv) (c .loop-test .left)
 
 pub write-spec : {M : Type 1} → statement M
 write-spec =

@@ -1,15 +1,11 @@
 -- `sheet::read_text` meets its contract. The loop's invariant: what has been read stands in the buffer.
 use borrow.Author.Needs.{needs}
+use borrow.Rule.Slice.PartMut.{putMid, same-len-mid}
 use mathlib.Core.Path.{_≡_, refl, _∙_}
-use Prim.Native.Nat.{_+_, _≤_, _-_}
-use native.Mathlib.Omega.{arith}
-use lib.ListN.{length}
-use borrow.Rule.Slice.PartMut.{same-len-mid}
-use Prim.Native.Nat.{ℕ}
-use lib.ListN.{length-take, length-drop}
 use mathlib.Core.List.{List}
-use lib.ListN.{take, drop}
-use borrow.Rule.Slice.PartMut.{putMid}
+use Prim.Native.Nat.{ℕ, _+_, _-_, _≤_}
+use native.Mathlib.Omega.{arith}
+use lib.ListN.{length, take, drop, length-take, length-drop}
 use Rattle.sheet.proofs.read_text.Statement.{statement}
 use Rattle.sheet.proofs.read_text.Tie as tie
 
@@ -23,23 +19,56 @@ Inv-loop buf₀ at₀ buf at = (at ≤ length buf) × (length buf ≡ length buf
 abbrev μ-loop : tie.MeasureT-loop
 μ-loop buf₀ at₀ buf at = length buf - at
 
+-- ---- the buffer once it was read into
+
+abbrev Read : Type 0
+Read = tie.After-read Inv-loop μ-loop
+
+abbrev test : Read → tie.At-loop Inv-loop μ-loop
+test c = c .before .before .before
+
+abbrev now : Read → List ℕ
+now c = let l = test c .loop in putMid (l .at) (length (l .buf) - l .at) (l .buf) (c .read .last .1 .0)
+
+long : (c : Read) → length (now c) ≡ length (test c .loop .buf)
+long c = let l = test c .loop in same-len-mid {X = ℕ} (l .at) (length (l .buf) - l .at) (l .buf) (c .read .last .1 .0) (c .read .kept .1 .0)
+
+-- ---- the bytes counted in it
+
+abbrev Counted : Type 0
+Counted = tie.After-count Inv-loop μ-loop
+
+abbrev answered : Counted → tie.Else1 Inv-loop μ-loop
+answered c = c .before .before .before
+
+abbrev read : Counted → Read
+read c = answered c .before .before .before
+
+there : (c : Counted) → test (read c) .loop .at + c .count .result ≤ length (now (read c))
+there c =
+    let at = test (read c) .loop .at in
+    let xs = now (read c) in
+    counted (c .count .result) at (length xs - at) xs (c .count .ensures .0 .0) (omega (arith, long (read c)))
+
+-- ---- the needs
+
 loop-holds : tie.Need-loop-holds Inv-loop μ-loop
 loop-holds c = (search needs, refl)
 
 same-length : tie.Need-same-length Inv-loop μ-loop
-same-length c = (same-len-mid {X = ℕ} (c .before .before .before .before .before .before .loop .at) (length (c .before .before .before .before .before .before .loop .buf) - c .before .before .before .before .before .before .loop .at) (c .before .before .before .before .before .before .loop .buf) (c .before .before .before .read .last .1 .0) (c .before .before .before .read .kept .1 .0)) ∙ c .before .before .before .before .before .before .loop .inv .1
+same-length c = let r = c .before .before .before in long r ∙ test r .loop .inv .1
 
 same-length-2 : tie.Need-same-length-2 Inv-loop μ-loop
-same-length-2 c = (same-len-mid {X = ℕ} (c .before .before .before .before .before .before .before .before .before .before .loop .at) (length (c .before .before .before .before .before .before .before .before .before .before .loop .buf) - c .before .before .before .before .before .before .before .before .before .before .loop .at) (c .before .before .before .before .before .before .before .before .before .before .loop .buf) (c .before .before .before .before .before .before .before .read .last .1 .0) (c .before .before .before .before .before .before .before .read .kept .1 .0)) ∙ c .before .before .before .before .before .before .before .before .before .before .loop .inv .1
+same-length-2 c = let r = read (c .before) in long r ∙ test r .loop .inv .1
 
 add-at : tie.Need-add-at Inv-loop μ-loop
-add-at c = omega (arith, counted (c .before .count .result) (c .before .before .before .before .before .before .before .before .before .before .loop .at) (length (putMid (c .before .before .before .before .before .before .before .before .before .before .loop .at) (length (c .before .before .before .before .before .before .before .before .before .before .loop .buf) - c .before .before .before .before .before .before .before .before .before .before .loop .at) (c .before .before .before .before .before .before .before .before .before .before .loop .buf) (c .before .before .before .before .before .before .before .read .last .1 .0)) - c .before .before .before .before .before .before .before .before .before .before .loop .at) (putMid (c .before .before .before .before .before .before .before .before .before .before .loop .at) (length (c .before .before .before .before .before .before .before .before .before .before .loop .buf) - c .before .before .before .before .before .before .before .before .before .before .loop .at) (c .before .before .before .before .before .before .before .before .before .before .loop .buf) (c .before .before .before .before .before .before .before .read .last .1 .0)) (c .before .count .ensures .0 .0) (omega (arith, (same-len-mid {X = ℕ} (c .before .before .before .before .before .before .before .before .before .before .loop .at) (length (c .before .before .before .before .before .before .before .before .before .before .loop .buf) - c .before .before .before .before .before .before .before .before .before .before .loop .at) (c .before .before .before .before .before .before .before .before .before .before .loop .buf) (c .before .before .before .before .before .before .before .read .last .1 .0) (c .before .before .before .before .before .before .before .read .kept .1 .0)))), (same-len-mid {X = ℕ} (c .before .before .before .before .before .before .before .before .before .before .loop .at) (length (c .before .before .before .before .before .before .before .before .before .before .loop .buf) - c .before .before .before .before .before .before .before .before .before .before .loop .at) (c .before .before .before .before .before .before .before .before .before .before .loop .buf) (c .before .before .before .before .before .before .before .read .last .1 .0) (c .before .before .before .before .before .before .before .read .kept .1 .0)), c .before .before .before .before .before .before .before .before .before .before .loop .inv .1)
+add-at c = let r = read (c .before) in omega (arith, there (c .before), long r, test r .loop .inv .1)
 
 loop-less : tie.Need-loop-less Inv-loop μ-loop
-loop-less c = omega (arith, counted (c .before .count .result) (c .before .before .before .before .before .before .before .before .before .before .loop .at) (length (putMid (c .before .before .before .before .before .before .before .before .before .before .loop .at) (length (c .before .before .before .before .before .before .before .before .before .before .loop .buf) - c .before .before .before .before .before .before .before .before .before .before .loop .at) (c .before .before .before .before .before .before .before .before .before .before .loop .buf) (c .before .before .before .before .before .before .before .read .last .1 .0)) - c .before .before .before .before .before .before .before .before .before .before .loop .at) (putMid (c .before .before .before .before .before .before .before .before .before .before .loop .at) (length (c .before .before .before .before .before .before .before .before .before .before .loop .buf) - c .before .before .before .before .before .before .before .before .before .before .loop .at) (c .before .before .before .before .before .before .before .before .before .before .loop .buf) (c .before .before .before .before .before .before .before .read .last .1 .0)) (c .before .count .ensures .0 .0) (omega (arith, (same-len-mid {X = ℕ} (c .before .before .before .before .before .before .before .before .before .before .loop .at) (length (c .before .before .before .before .before .before .before .before .before .before .loop .buf) - c .before .before .before .before .before .before .before .before .before .before .loop .at) (c .before .before .before .before .before .before .before .before .before .before .loop .buf) (c .before .before .before .before .before .before .before .read .last .1 .0) (c .before .before .before .before .before .before .before .read .kept .1 .0)))), (same-len-mid {X = ℕ} (c .before .before .before .before .before .before .before .before .before .before .loop .at) (length (c .before .before .before .before .before .before .before .before .before .before .loop .buf) - c .before .before .before .before .before .before .before .before .before .before .loop .at) (c .before .before .before .before .before .before .before .before .before .before .loop .buf) (c .before .before .before .before .before .before .before .read .last .1 .0) (c .before .before .before .before .before .before .before .read .kept .1 .0)))
+loop-less c = omega (arith, there (c .before), long (read (c .before)))
 
 loop-again : tie.Need-loop-again Inv-loop μ-loop
-loop-again c = (counted (c .before .count .result) (c .before .before .before .before .before .before .before .before .before .before .loop .at) (length (putMid (c .before .before .before .before .before .before .before .before .before .before .loop .at) (length (c .before .before .before .before .before .before .before .before .before .before .loop .buf) - c .before .before .before .before .before .before .before .before .before .before .loop .at) (c .before .before .before .before .before .before .before .before .before .before .loop .buf) (c .before .before .before .before .before .before .before .read .last .1 .0)) - c .before .before .before .before .before .before .before .before .before .before .loop .at) (putMid (c .before .before .before .before .before .before .before .before .before .before .loop .at) (length (c .before .before .before .before .before .before .before .before .before .before .loop .buf) - c .before .before .before .before .before .before .before .before .before .before .loop .at) (c .before .before .before .before .before .before .before .before .before .before .loop .buf) (c .before .before .before .before .before .before .before .read .last .1 .0)) (c .before .count .ensures .0 .0) (omega (arith, (same-len-mid {X = ℕ} (c .before .before .before .before .before .before .before .before .before .before .loop .at) (length (c .before .before .before .before .before .before .before .before .before .before .loop .buf) - c .before .before .before .before .before .before .before .before .before .before .loop .at) (c .before .before .before .before .before .before .before .before .before .before .loop .buf) (c .before .before .before .before .before .before .before .read .last .1 .0) (c .before .before .before .before .before .before .before .read .kept .1 .0)))), (same-len-mid {X = ℕ} (c .before .before .before .before .before .before .before .before .before .before .loop .at) (length (c .before .before .before .before .before .before .before .before .before .before .loop .buf) - c .before .before .before .before .before .before .before .before .before .before .loop .at) (c .before .before .before .before .before .before .before .before .before .before .loop .buf) (c .before .before .before .before .before .before .before .read .last .1 .0) (c .before .before .before .before .before .before .before .read .kept .1 .0)) ∙ c .before .before .before .before .before .before .before .before .before .before .loop .inv .1)
+loop-again c = let r = read (c .before) in (there (c .before), long r ∙ test r .loop .inv .1)
 
 same-length-3 : tie.Need-same-length-3 Inv-loop μ-loop
 same-length-3 c = c .before .loop .inv .1

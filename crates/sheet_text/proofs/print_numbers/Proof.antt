@@ -65,60 +65,87 @@ cast-n c = omega (arith, c .shared-slice-known3 .given 1)
 cast-modulus : tie.Need-cast-modulus
 cast-modulus c = omega (arith, c .shared-slice-known4 .given 2)
 
--- the numbers, and that there are three at least
+-- ---- the numbers, and their bytes in the buffer
+
 abbrev ns : tie.Start → List ℕ
 ns s = s .args .numbers .now
 
--- what is in the buffer
-filled : (c : tie.After-bytes2) → c .bytes2 .last .1 .0 ≡ map low (drop 3 (ns (c .before .before .before .before .before .before .before))) ++ drop (length (drop 3 (ns (c .before .before .before .before .before .before .before)))) (replicate 32768 0)
-filled c = rw (rest (ns (c .before .before .before .before .before .before .before)) (c .before .before .before .before .before .before .before .pre .0)) at (c .bytes2 .ensures)
+abbrev read : tie.After-shared-slice-known4 → tie.Start
+read c = c .before .before .before .before
+
+abbrev start : tie.After-bytes2 → tie.Start
+start c = read (c .before .before .before)
+
+abbrev buffer : tie.After-bytes2 → List ℕ
+buffer c = c .bytes2 .last .1 .0
+
+filled : (c : tie.After-bytes2) → buffer c ≡ map low (drop 3 (ns (start c))) ++ drop (length (drop 3 (ns (start c)))) (replicate 32768 0)
+filled c = rw (rest (ns (start c)) (start c .pre .0)) at (c .bytes2 .ensures)
+
+-- ---- how many parents there are
+
+abbrev written : tie.After-parent-count → tie.After-bytes2
+written c = c .before .before
 
 slice-aggregate-fresh : tie.Need-slice-aggregate-fresh
 slice-aggregate-fresh c =
     let p = c .before in
-    let y = p .before .before in
-    sym (length-take-le (p .parent-count .result) (y .bytes2 .last .1 .0)
-    (omega (arith, y .bytes2 .kept, length-replicate {A = ℕ} 32768 0, p .parent-count .ensures, y .before .before .before .before .before .before .before .pre)))
+    let y = written p in
+    sym (length-take-le (p .parent-count .result) (buffer y)
+    (omega (arith, y .bytes2 .kept, length-replicate {A = ℕ} 32768 0, p .parent-count .ensures, start y .pre)))
 
--- what the fresh state is made from
-made : (c : tie.After-fresh) → c .fresh .result ≡ freshOf (lowInputs (said (ns (c .before .before .before .before .before .before .before .before .before .before .before)) .inputs))
+-- ---- the fresh state, and the turns that are run
+
+abbrev counted : tie.After-fresh → tie.After-parent-count
+counted c = c .before .before
+
+abbrev begun : tie.After-fresh → tie.Start
+begun c = start (written (counted c))
+
+made : (c : tie.After-fresh) → c .fresh .result ≡ freshOf (lowInputs (said (ns (begun c)) .inputs))
 made c =
-    let p = c .before .before in
-    let y = p .before .before in
-    let s = y .before .before .before .before .before .before .before in
+    let p = counted c in
+    let y = written p in
+    let s = begun c in
     c .fresh .ensures
     ∙ ap (λ (ps : List ℕ). freshOf (record { kind = getD (ns s) 0 0; n = getD (ns s) 1 0; modulus = getD (ns s) 2 0; parents = ps }))
-    (parents (ns s) (s .pre .0) (y .bytes2 .last .1 .0) _ (p .parent-count .result) (filled y) (p .parent-count .ensures))
+    (parents (ns s) (s .pre .0) (buffer y) _ (p .parent-count .result) (filled y) (p .parent-count .ensures))
+
+turned : (c : tie.After-fresh) → let k = counted c .parent-count .result in
+    take (length (ns (begun c)) - 3 - k) (drop k (buffer (written (counted c)))) ≡ map low (said (ns (begun c)) .schedule)
+turned c =
+    let p = counted c in
+    let y = written p in
+    let s = begun c in
+    turns (ns s) (s .pre .0) (buffer y) _ (p .parent-count .result) (filled y) (p .parent-count .ensures)
+
+abbrev accepting : tie.After-print-run-arg2 → tie.Else1
+accepting c = c .before .before .before
+
+-- ---- the returns
 
 returns : tie.Need-returns
 returns c =
     let f = c .before .before .before in
-    let s = f .before .before .before .before .before .before .before .before .before .before .before in
+    let s = begun f in
     rw (refused (ns s) (s .pre .0) (f .fresh .result) (made f) (c .before .before .if1 .taken)) (c .refusal .ensures)
-
--- the turns that are run
-turned : (c : tie.After-fresh) → let p = c .before .before in
-    take (length (ns (c .before .before .before .before .before .before .before .before .before .before .before)) - 3 - p .parent-count .result) (drop (p .parent-count .result) (p .before .before .bytes2 .last .1 .0)) ≡ map low (said (ns (c .before .before .before .before .before .before .before .before .before .before .before)) .schedule)
-turned c =
-    let p = c .before .before in
-    let y = p .before .before in
-    let s = y .before .before .before .before .before .before .before in
-    turns (ns s) (s .pre .0) (y .bytes2 .last .1 .0) _ (p .parent-count .result) (filled y) (p .parent-count .ensures)
 
 print-run-requires : tie.Need-print-run-requires
 print-run-requires c κs =
-    let f = c .before .before .before .before in
-    let s = f .before .before .before .before .before .before .before .before .before .before .before in
+    let e = accepting c in
+    let f = e .before in
+    let s = begun f in
     let d : ℕ = parentCount (getD (ns s) 0 0) (getD (ns s) 1 0) in (
-      valid (ns s) (s .pre .0) (f .fresh .result) (made f) (c .before .before .before .if1 .left),
+      valid (ns s) (s .pre .0) (f .fresh .result) (made f) (e .if1 .left),
       rw (turned f, length-map (drop d (drop 3 (ns s))) low, length-drop d (drop 3 (ns s)), length-drop 3 (ns s)) (omega (arith, s .pre .1)),
     )
 
 returns-2 : tie.Need-returns-2
 returns-2 c =
-    let f = c .before .before .before .before .before in
-    let s = f .before .before .before .before .before .before .before .before .before .before .before in
-    rw (accepted (ns s) (s .pre .0) (f .fresh .result) (made f) (c .before .before .before .before .if1 .left) _ (turned f)) (c .print-run .ensures)
+    let e = accepting (c .before) in
+    let f = e .before in
+    let s = begun f in
+    rw (accepted (ns s) (s .pre .0) (f .fresh .result) (made f) (e .if1 .left) _ (turned f)) (c .print-run .ensures)
 
 pub print-numbers-spec : {M : Type 1} → statement M
 print-numbers-spec =

@@ -39,49 +39,66 @@ counted (some ns) r buffer k t e =
     let n : k ≡ length ns = cc in
     (omega (arith, ap length (t .1), length-take (length ns) buffer), rw (n, t .1))
 
+-- ---- the text, and the reader's answer
+
+abbrev buffer : tie.After-numbers2 → List ℕ
+buffer c = c .numbers2 .last .1 .0
+
+abbrev text : tie.After-numbers2 → List ℕ
+text c = c .before .before .before .before .args .text .now
+
+allowed : (c : tie.After-numbers2) → sheetOf (text c) ≡ printed (readOption (numbersFrom 0 0 (text c)))
+allowed c = short (text c) (c .before .before .if1 .left)
+
+-- ---- where the reader has counted
+
+abbrev read : tie.After-found → tie.After-numbers2
+read c = c .before .before .before
+
+abbrev count : tie.After-found → ℕ
+count c = c .found .given .0 .0
+
+told : (c : tie.After-found) → (count c ≤ length (buffer (read c))) × (sheetOf (text (read c)) ≡ printed (readNumbers (take (count c) (buffer (read c)))))
+told c =
+    let r = read c in
+    let w = counted (numbersFrom 0 0 (text r)) (r .numbers2 .result) (buffer r) (count c) (r .numbers2 .ensures) (c .found .given .1) in
+    (w .0, allowed r ∙ w .1)
+
+taken : (c : tie.After-found) → length (take (count c) (buffer (read c))) ≡ count c
+taken c = length-take-le (count c) (buffer (read c)) (told c .0)
+
+abbrev found : tie.After-numbers4 → tie.After-found
+found c = c .before .before .before .before
+
+-- ---- the needs
+
 returns : tie.Need-returns
 returns c = rw (too-long (c .before .before .before .before .args .text .now) (c .before .before .if1 .taken)) (c .refusal .ensures)
 
 returns-2 : tie.Need-returns-2
 returns-2 c =
-    let r = c .before .before .before .before .before in
-    let t = r .before .before .before .before .args .text .now in
-    rw (short t (r .before .before .if1 .left), bad (numbersFrom 0 0 t) (r .numbers2 .result) (r .numbers2 .last .1 .0) (r .numbers2 .ensures) (c .before .before .enum-told .given .1))
-    (c .refusal2 .ensures)
-
--- where the reader has counted
-told : (c : tie.After-found) → let r = c .before .before .before in let k = c .found .given .0 .0 in
-    (k ≤ length (r .numbers2 .last .1 .0)) × (sheetOf (r .before .before .before .before .args .text .now) ≡ printed (readNumbers (take k (r .numbers2 .last .1 .0))))
-told c =
-    let r = c .before .before .before in
-    let t = r .before .before .before .before .args .text .now in
-    let w = counted (numbersFrom 0 0 t) (r .numbers2 .result) (r .numbers2 .last .1 .0) (c .found .given .0 .0) (r .numbers2 .ensures) (c .found .given .1) in
-    (w .0, short t (r .before .before .if1 .left) ∙ w .1)
+    let e = c .before .before in
+    let r = e .before .before .before in
+    rw (allowed r, bad (numbersFrom 0 0 (text r)) (r .numbers2 .result) (buffer r) (r .numbers2 .ensures) (e .enum-told .given .1)) (c .refusal2 .ensures)
 
 returns-3 : tie.Need-returns-3
 returns-3 c =
     let f = c .before .before .before .before in
-    let l : List ℕ = f .before .before .before .numbers2 .last .1 .0 in
-    let k : ℕ = f .found .given .0 .0 in
-    rw (told f .1, fewer (take k l) (rw (length-take-le k l (told f .0)) (c .before .before .if2 .taken))) (c .refusal3 .ensures)
+    rw (told f .1, fewer (take (count f) (buffer (read f))) (rw (taken f) (c .before .before .if2 .taken))) (c .refusal3 .ensures)
 
 array-share-prefix-numbers : tie.Need-array-share-prefix-numbers
 array-share-prefix-numbers c = told (c .before .before .before) .0
 
 slice-aggregate-print-numbers : tie.Need-slice-aggregate-print-numbers
-slice-aggregate-print-numbers c =
-    let f = c .before .before .before .before in
-    sym (length-take-le (f .found .given .0 .0) (f .before .before .before .numbers2 .last .1 .0) (told f .0))
+slice-aggregate-print-numbers c = sym (taken (found c))
 
 print-numbers-requires : tie.Need-print-numbers-requires
 print-numbers-requires c κs =
-    let f = c .before .before .before .before in
-    let r = f .before .before .before in
-    rw (length-take-le (f .found .given .0 .0) (r .numbers2 .last .1 .0) (told f .0))
-    (c .before .before .if2 .left, omega (arith, told f .0, r .numbers2 .kept, length-replicate {A = ℕ} 32768 0))
+    let f = found c in
+    rw (taken f) (c .before .before .if2 .left, omega (arith, told f .0, read f .numbers2 .kept, length-replicate {A = ℕ} 32768 0))
 
 returns-4 : tie.Need-returns-4
-returns-4 c = rw (told (c .before .before .before .before .before) .1) (c .print-numbers .ensures)
+returns-4 c = rw (told (found (c .before)) .1) (c .print-numbers .ensures)
 
 pub print-text-spec : {M : Type 1} → statement M
 print-text-spec =

@@ -7,6 +7,9 @@ use Rattle.tungwaff.specs.Entry.{thenTurnReason, thenTurnNumber}
 use Rattle.tungwaff.proofs.tungwaff_turn.Statement.{statement}
 use Rattle.tungwaff.proofs.tungwaff_turn.Tie as tie
 
+abbrev start : tie.After-whole-run-arg → tie.Start
+start c = c .before .before .before .before
+
 returns : tie.Need-returns
 unfolding thenTurnReason thenTurnNumber
 returns c =
@@ -21,7 +24,7 @@ returns-2 c =
     let g = c .before .before .before .before in
     let w = g .before .before .before in
     let r = w .whole-run in
-    let a = w .before .before .before .before .before .args in
+    let a = start (w .before) .args in
     let e : t .result ≡ turnOf (r .result .state) (a .task) = t .ensures in
     let o = eq-eqb (r .result .reason) 0 (g .if1 .left) in (
       rw (← r .ensures .0, o, ← e) (c .turn-reason .ensures),

@@ -18,7 +18,8 @@ returns c =
 returns-2 : tie.Need-returns-2
 unfolding wholeRunOf wholeRunLog
 returns-2 c =
-    let g = c .before .before .before .before .before in
+    let s = c .before .before in
+    let g = s .before .before .before in
     let h = g .before .before in
     let u = h .before .before in
     let f = u .fresh in

@@ -9,15 +9,14 @@ use lib.Dec.{eqb, leb}
 use lib.ListN.{length}
 use borrow.Author.Tests.{ne-eqb, eqb-true, leb-true}
 use Rattle.bitset.specs.Choice.{pick}
-use Rattle.bitset.specs.Tasks.{isCount}
-use Rattle.bitset.specs.SetLaws.{is-count}
 use Rattle.parents.specs.Parents.{checkOf}
 use Rattle.parents.specs.ParentsLaws.{accepted}
-use Rattle.machine.specs.Fresh.{Inputs, isKind, modulusOk, tableReason, freshReason, freshOf}
+use Rattle.machine.specs.Fresh.{Inputs, inputsOf, freshOf}
+use Rattle.machine.specs.FreshLaws.{Accepted, accepted-inputs}
 use Rattle.machine.proofs.Setup.fresh.Statement.{statement}
 use Rattle.machine.proofs.Setup.fresh.Tie as tie
 
--- what is accepted fits the state's fields: the modulus, the table, and then all
+-- a modulus and a table that are accepted fit the state's fields
 modulus-fits : (b : Bool) (r : ℕ) → pick b (leb 3 r && leb r 255) (eqb r 0) ≡ true → r ≤ 255
 modulus-fits true r e = leb-true r 255 (and-eq-true-iff (leb 3 r) (leb r 255) .0 e .1)
 modulus-fits false r e = omega (arith, eqb-true r 0 e)
@@ -27,45 +26,49 @@ table-fits true z n parents h ez e = omega (arith, accepted parents n e .long)
 table-fits false true n parents h ez e = omega (arith, eqb-true (length parents) 0 ez)
 table-fits false false n parents h ez e = absurd (omega arith)
 
-fits : (i : Inputs) → freshReason i ≡ 0 → (i .kind ≤ 3) × (i .n ≤ 64) × (i .modulus ≤ 255) × (length (i .parents) ≤ 64)
-unfolding freshReason
-fits i e = go (isKind (i .kind)) (isCount (i .n)) (modulusOk (i .kind) (i .modulus)) refl refl refl e
-  where
-    go : (k n m : Bool) → isKind (i .kind) ≡ k → isCount (i .n) ≡ n → modulusOk (i .kind) (i .modulus) ≡ m
-        → pick k (pick n (pick m (tableReason (i .kind) (i .n) (i .parents)) 4) 3) 2 ≡ 0
-        → (i .kind ≤ 3) × (i .n ≤ 64) × (i .modulus ≤ 255) × (length (i .parents) ≤ 64)
-    go true true true ek en em e = (
-      leb-true (i .kind) 3 ek,
-      is-count (i .n) en .1,
-      modulus-fits (eqb (i .kind) 0) (i .modulus) em,
-      table-fits (eqb (i .kind) 3) (eqb (length (i .parents)) 0) (i .n) (i .parents) (is-count (i .n) en .1) refl e,
-    )
-    go true true false ek en em e = absurd (omega arith)
-    go true false m ek en em e = absurd (omega arith)
-    go false n m ek en em e = absurd (omega arith)
+-- ---- a call that is accepted, and what fits its state's fields
+
+abbrev start : tie.Else1 → tie.Start
+start c = c .before .before .before
+
+abbrev inputs : tie.Else1 → Inputs
+inputs c = inputsOf (start c .args .self) (start c .args .parents .now)
+
+accepts : (c : tie.Else1) → Accepted (inputs c)
+accepts c = accepted-inputs (inputs c) (sym (c .before .reason .ensures) ∙ c .if1 .left)
+
+abbrev filled : tie.After-struct-known → tie.Else1
+filled c = c .before .before .before
+
+-- ---- the needs
 
 returns : tie.Need-returns
 unfolding freshOf
 returns c = rw (← c .before .before .reason .ensures, ne-eqb _ 0 (c .before .if1 .taken), c .zero-state .ensures)
 
 padded-requires : tie.Need-padded-requires
-padded-requires c κs = fits _ (sym (c .before .reason .ensures) ∙ c .if1 .left) .3
+padded-requires c κs = table-fits (eqb (inputs c .kind) 3) _ (inputs c .n) (inputs c .parents) (accepts c .few) refl (accepts c .table)
 
 fresh-tasks-requires : tie.Need-fresh-tasks-requires
-fresh-tasks-requires c κs = fits _ (sym (c .before .before .reason .ensures) ∙ c .before .if1 .left) .1
+fresh-tasks-requires c κs = accepts (c .before) .few
 
 cast-t9 : tie.Need-cast-t9
-cast-t9 c = let f = fits _ (sym (c .before .before .before .before .reason .ensures) ∙ c .before .before .before .if1 .left) in omega arith
+cast-t9 c = omega (arith, accepts (filled c) .kind)
 
 cast-t10 : tie.Need-cast-t10
-cast-t10 c = let f = fits _ (sym (c .before .before .before .before .before .reason .ensures) ∙ c .before .before .before .before .if1 .left) in omega arith
+cast-t10 c = omega (arith, accepts (filled (c .before)) .few)
 
 cast-t11 : tie.Need-cast-t11
-cast-t11 c = let f = fits _ (sym (c .before .before .before .before .before .before .reason .ensures) ∙ c .before .before .before .before .before .if1 .left) in omega arith
+cast-t11 c =
+    let e = filled (c .before .before) in
+    omega (arith, modulus-fits (eqb (inputs e .kind) 0) (inputs e .modulus) (accepts e .modulus))
 
 returns-2 : tie.Need-returns-2
 unfolding freshOf
-returns-2 c = rw (← c .before .before .before .before .before .before .before .reason .ensures, c .before .before .before .before .before .before .if1 .left, c .before .before .before .before .before .padded .ensures, c .before .before .before .before .fresh-tasks .ensures, c .fresh-sense .ensures)
+returns-2 c =
+    let k = c .before .before .before in
+    let e = filled k in
+    rw (← e .before .reason .ensures, e .if1 .left, k .before .before .padded .ensures, k .before .fresh-tasks .ensures, c .fresh-sense .ensures)
 
 pub fresh-spec : {M : Type 1} → statement M
 fresh-spec =

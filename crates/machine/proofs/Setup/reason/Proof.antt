@@ -1,9 +1,25 @@
 -- `machine::Setup::reason` meets its contract, a return for each reason.
 use borrow.Author.Needs.{needs}
+use mathlib.Core.Path.{_≡_, sym, _∙_}
+use mathlib.Core.Bool.{true}
 use borrow.Author.Tests.{not-true, not-false}
-use Rattle.machine.specs.Fresh.{freshReason}
+use Rattle.bitset.specs.Tasks.{isCount}
+use Rattle.machine.specs.Fresh.{isKind, freshReason}
 use Rattle.machine.proofs.Setup.reason.Statement.{statement}
 use Rattle.machine.proofs.Setup.reason.Tie as tie
+
+-- what each test leaves
+abbrev start : tie.Else1 → tie.Start
+start c = c .before .before .before
+
+kind-known : (c : tie.Else1) → isKind (start c .args .self .kind) ≡ true
+kind-known c = sym (c .before .is-kind .ensures) ∙ not-false _ (c .if1 .left)
+
+abbrev counting : tie.Else2 → tie.Else1
+counting c = c .before .before
+
+few : (c : tie.Else2) → isCount (start (counting c) .args .self .n) ≡ true
+few c = sym (c .before .is-count .ensures) ∙ not-false _ (c .if2 .left)
 
 returns : tie.Need-returns
 unfolding freshReason
@@ -11,15 +27,20 @@ returns c = rw (← c .before .is-kind .ensures, not-true (c .before .is-kind .r
 
 returns-2 : tie.Need-returns-2
 unfolding freshReason
-returns-2 c = rw (← c .before .before .before .is-kind .ensures, not-false (c .before .before .before .is-kind .result) (c .before .before .if1 .left), ← c .before .is-count .ensures, not-true (c .before .is-count .result) (c .if2 .taken))
+returns-2 c = rw (kind-known (c .before .before), ← c .before .is-count .ensures, not-true (c .before .is-count .result) (c .if2 .taken))
 
 returns-3 : tie.Need-returns-3
 unfolding freshReason
-returns-3 c = rw (← c .before .before .before .before .before .is-kind .ensures, not-false (c .before .before .before .before .before .is-kind .result) (c .before .before .before .before .if1 .left), ← c .before .before .before .is-count .ensures, not-false (c .before .before .before .is-count .result) (c .before .before .if2 .left), ← c .before .modulus-ok .ensures, not-true (c .before .modulus-ok .result) (c .if3 .taken))
+returns-3 c =
+    let n = c .before .before in
+    rw (kind-known (counting n), few n, ← c .before .modulus-ok .ensures, not-true (c .before .modulus-ok .result) (c .if3 .taken))
 
 returns-4 : tie.Need-returns-4
 unfolding freshReason
-returns-4 c = rw (← c .before .before .before .before .before .before .is-kind .ensures, not-false (c .before .before .before .before .before .before .is-kind .result) (c .before .before .before .before .before .if1 .left), ← c .before .before .before .before .is-count .ensures, not-false (c .before .before .before .before .is-count .result) (c .before .before .before .if2 .left), ← c .before .before .modulus-ok .ensures, not-false (c .before .before .modulus-ok .result) (c .before .if3 .left)) (c .table-reason .ensures)
+returns-4 c =
+    let m = c .before .before in
+    let n = m .before in
+    rw (kind-known (counting n), few n, ← m .modulus-ok .ensures, not-false (m .modulus-ok .result) (c .before .if3 .left)) (c .table-reason .ensures)
 
 pub reason-spec : {M : Type 1} → statement M
 reason-spec =

@@ -10,7 +10,7 @@ use Rattle.lines.specs.declared.Effect.{Effect}
 use Rattle.machine.specs.declared.State.{State}
 use Rattle.machine.specs.declared.Ready.the-variants.{Task}
 use Rattle.machine.specs.Range.{Valid}
-use Rattle.machine.specs.Turn.{effectOf, outcomeOf, turnOf, isMoved}
+use Rattle.machine.specs.Turn.{effectOf, outcomeOf, isMoved}
 use Rattle.machine.specs.TurnLaws.{turn-step, step-outcome}
 use Rattle.machine.specs.Ready.{readyFrom}
 use Rattle.machine.proofs.State.able.Statement.{statement}

@@ -23,6 +23,9 @@ seen-there c = omega (arith, range (c .args .t1) (c .pre .0) .few, looked-known 
 table-there : (c : tie.Start) → c .args .t1 .n ≤ length (c .args .t1 .parents)
 table-there c = omega (arith, range (c .args .t1) (c .pre .0) .few, parents-64 (c .args .t1) _ (c .good .0))
 
+abbrev start : tie.After-parents → tie.Start
+start c = c .before .before .before .before
+
 element-copy-out-own : tie.Need-element-copy-out-own
 element-copy-out-own c = own-there c
 
@@ -30,10 +33,10 @@ element-copy-out-seen : tie.Need-element-copy-out-seen
 element-copy-out-seen c = seen-there (c .before .before)
 
 array-share-prefix-parents : tie.Need-array-share-prefix-parents
-array-share-prefix-parents c = table-there (c .before .before .before .before)
+array-share-prefix-parents c = table-there (start c)
 
 slice-aggregate-effect-of : tie.Need-slice-aggregate-effect-of
-slice-aggregate-effect-of c = sym (length-take-le _ _ (table-there (c .before .before .before .before .before)))
+slice-aggregate-effect-of c = sym (length-take-le _ _ (table-there (start (c .before))))
 
 returns : tie.Need-returns
 unfolding effectOf

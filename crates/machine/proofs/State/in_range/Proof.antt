@@ -6,7 +6,18 @@ use Rattle.machine.proofs.State.in_range.Tie as tie
 
 returns : tie.Need-returns
 unfolding stateOk
-returns c = rw (c .before .before .before .before .before .before .before .is-kind .ensures, c .before .before .before .before .before .before .is-count .ensures, c .before .before .before .before .modulus-ok .ensures, c .before .before .before .field-ok .ensures, c .before .before .field-ok2 .ensures, c .before .parents-ok .ensures, c .tasks-ok .ensures)
+returns c =
+    let m = c .before .before .before .before in
+    let n = m .before .before in
+    rw (
+      n .before .is-kind .ensures,
+      n .is-count .ensures,
+      m .modulus-ok .ensures,
+      c .before .before .before .field-ok .ensures,
+      c .before .before .field-ok2 .ensures,
+      c .before .parents-ok .ensures,
+      c .tasks-ok .ensures,
+    )
 
 pub in-range-spec : {M : Type 1} → statement M
 in-range-spec =

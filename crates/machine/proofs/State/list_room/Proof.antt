@@ -1,25 +1,39 @@
 -- `machine::State::list_room` meets its contract, a return for each kind of list.
 use borrow.Author.Needs.{needs}
-use mathlib.Core.Path.{sym}
+use mathlib.Core.Path.{_≡_, sym}
+use Prim.Native.Nat.{_≤_}
 use native.Mathlib.Omega.{arith}
+use lib.ListN.{length}
 use lib.Seq.{length-take-le}
 use borrow.Author.Tests.{ne-eqb}
 use Rattle.machine.proofs.Arrays.{parents-64, take-min}
 use Rattle.machine.proofs.State.list_room.Statement.{statement}
 use Rattle.machine.proofs.State.list_room.Tie as tie
 
+-- a tree: its state, and the length of its table
+abbrev start : tie.After-table-length → tie.Start
+start c = c .before .before .before
+
+long : (c : tie.After-table-length) → length (start c .args .self .parents) ≡ 64
+long c = parents-64 (start c .args .self) _ (start c .good .0)
+
+table-there : (c : tie.After-table-length) → c .table-length .result ≤ length (start c .args .self .parents)
+table-there c = omega (arith, c .table-length .ensures, long c)
+
 array-share-prefix-parents : tie.Need-array-share-prefix-parents
-array-share-prefix-parents c = omega (arith, c .table-length .ensures, parents-64 (c .before .before .before .args .self) _ (c .before .before .before .good .0))
+array-share-prefix-parents c = table-there c
 
 slice-aggregate-children : tie.Need-slice-aggregate-children
-slice-aggregate-children c = sym (length-take-le _ _ (omega (arith, c .before .table-length .ensures, parents-64 (c .before .before .before .before .args .self) _ (c .before .before .before .before .good .0))))
+slice-aggregate-children c = sym (length-take-le _ _ (table-there (c .before)))
 
 returns : tie.Need-returns
 returns c = rw (c .before .before .match .keys1) (c .all .ensures)
 
 returns-2 : tie.Need-returns-2
-returns-2 c = let s = c .before .before .before .before .before .args .self in
-    rw (c .before .before .before .before .match .keys2, ← take-min (s .n) (s .parents) (parents-64 s _ (c .before .before .before .before .before .good .0)), ← c .before .before .table-length .ensures) (c .children .ensures)
+returns-2 c =
+    let t = c .before .before in
+    let s = start t .args .self in
+    rw (t .before .before .match .keys2, ← take-min (s .n) (s .parents) (long t), ← t .table-length .ensures) (c .children .ensures)
 
 returns-3 : tie.Need-returns-3
 returns-3 c = rw (ne-eqb _ _ (c .match .rest .0 .1), ne-eqb _ _ (c .match .rest .1))

@@ -2,7 +2,7 @@
 use borrow.Author.Needs.{needs}
 use mathlib.Core.Path.{_≡_, sym}
 use mathlib.Core.Bool.{_&&_, Bool}
-use Prim.Native.Nat.{ℕ, _-_, min}
+use Prim.Native.Nat.{ℕ, _-_, _≤_, min}
 use native.Mathlib.Omega.{arith}
 use lib.ListN.{length, take, drop, length-drop}
 use lib.Seq.{length-take-le, take-all}
@@ -21,21 +21,41 @@ tabled : (s : State) (m k : ℕ) (accepts zero : Bool) → length (s .parents) �
 tabled s m k accepts zero long kind em ek ea ez =
     rw (ea, ez, ek, eq-eqb (s .kind) 3 kind, take-all (64 - m) (drop m (s .parents)) (omega (arith, length-drop m (s .parents))), em, take-min (s .n) (s .parents) long, drop-min (s .n) (s .parents) long)
 
+-- ---- a tree: its state, and the length of its table
+
+abbrev start : tie.Else1 → tie.Start
+start c = c .before .before .before
+
+long : (c : tie.Else1) → length (start c .args .self .parents) ≡ 64
+long c = parents-64 (start c .args .self) _ (start c .good .0)
+
+table-there : (c : tie.After-table-length) → c .table-length .result ≤ length (start (c .before) .args .self .parents)
+table-there c = omega (arith, c .table-length .ensures, long (c .before))
+
+abbrev measured : tie.After-all-zero2 → tie.After-table-length
+measured c = c .before .before .before
+
+-- ---- the needs
+
 returns : tie.Need-returns
 returns c = rw (ne-eqb _ 3 (c .before .before .if1 .taken)) (c .all-zero .ensures)
 
 part-all-zero-end : tie.Need-part-all-zero-end
-part-all-zero-end c = omega (arith, parents-64 (c .before .before .before .before .before .args .self) _ (c .before .before .before .before .before .good .0))
+part-all-zero-end c = omega (arith, long (c .before .before))
 
 array-share-prefix-parents : tie.Need-array-share-prefix-parents
-array-share-prefix-parents c = omega (arith, c .before .before .before .table-length .ensures, parents-64 (c .before .before .before .before .before .before .before .args .self) _ (c .before .before .before .before .before .before .before .good .0))
+array-share-prefix-parents c = table-there (measured c)
 
 slice-aggregate-check : tie.Need-slice-aggregate-check
-slice-aggregate-check c = sym (length-take-le _ _ (omega (arith, c .before .before .before .before .table-length .ensures, parents-64 (c .before .before .before .before .before .before .before .before .args .self) _ (c .before .before .before .before .before .before .before .before .good .0))))
+slice-aggregate-check c = sym (length-take-le _ _ (table-there (measured (c .before))))
 
 returns-2 : tie.Need-returns-2
-returns-2 c = let s = c .before .before .before .before .before .before .before .before .before .before .before .args .self in
-    tabled s (c .before .before .before .before .before .before .before .table-length .result) _ _ _ (parents-64 s _ (c .before .before .before .before .before .before .before .before .before .before .before .good .0)) (c .before .before .before .before .before .before .before .before .if1 .left) (c .before .before .before .before .before .before .before .table-length .ensures) (c .before .check .ensures) (c .accepted .ensures) (c .before .before .before .before .all-zero2 .ensures)
+returns-2 c =
+    let z = c .before .before .before .before in
+    let t = measured z in
+    let e = t .before in
+    tabled (start e .args .self) (t .table-length .result) _ _ _ (long e) (e .if1 .left) (t .table-length .ensures)
+    (c .before .check .ensures) (c .accepted .ensures) (z .all-zero2 .ensures)
 
 pub parents-ok-spec : {M : Type 1} → statement M
 parents-ok-spec =

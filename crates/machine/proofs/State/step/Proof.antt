@@ -6,7 +6,6 @@ use native.Mathlib.Omega.{arith}
 use Rattle.lines.specs.declared.Effect.{Effect}
 use Rattle.machine.specs.declared.Outcome.{Outcome}
 use Rattle.machine.specs.declared.State.{State}
-use Rattle.lines.specs.Words.{placeOf}
 use Rattle.machine.specs.Turn.{effectOf, outcomeOf}
 use Rattle.machine.specs.TurnLaws.{step-made, step-refused}
 use Rattle.machine.specs.RangeLaws.{range}
@@ -29,8 +28,11 @@ outcome-is c o e = sym (c .of .ensures ∙ ap (λ (x : Effect). outcomeOf (x .ac
 own-there : (c : tie.Start) → c .args .task < 64
 own-there c = omega (arith, range (c .args .t1) (c .pre .0) .few, c .pre .1)
 
+abbrev told : tie.After-next → tie.After-of
+told c = c .before .before .before
+
 abbrev made : tie.After-place → tie.After-of
-made c = c .before .before .before .before .before .before
+made c = told (c .before .before .before)
 
 place-there : (c : tie.After-place) → c .place .result < 64
 place-there c =
@@ -45,7 +47,7 @@ returns c =
     rw (c .enum-told2 .given .1) (sym (step-refused (self o) (start o .args .task) _ e))
 
 element-set-from-next : tie.Need-element-set-from-next
-element-set-from-next c = own-there (c .before .before .before .before .before)
+element-set-from-next c = own-there (start (told c))
 
 mul-there : tie.Need-mul-there
 mul-there c = omega (arith, place-there c)

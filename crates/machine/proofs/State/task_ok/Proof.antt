@@ -6,7 +6,21 @@ use Rattle.machine.proofs.State.task_ok.Tie as tie
 
 returns : tie.Need-returns
 unfolding taskOk
-returns c = rw (c .before .before .before .before .before .before .before .before .before .before .last-line .ensures, c .before .before .before .before .before .before .before .field-ok .ensures, c .before .before .before .before .before .before .field-ok2 .ensures, c .before .before .before .before .before .field-ok3 .ensures, c .before .before .before .within .ensures, c .before .before .before .before .list-room .ensures, c .before .before .field-ok4 .ensures, c .before .field-ok5 .ensures, c .field-ok6 .ensures)
+returns c =
+    let w = c .before .before .before in
+    let l = w .before in
+    let f = l .before .before .before in
+    rw (
+      f .before .before .before .last-line .ensures,
+      f .field-ok .ensures,
+      l .before .before .field-ok2 .ensures,
+      l .before .field-ok3 .ensures,
+      w .within .ensures,
+      l .list-room .ensures,
+      c .before .before .field-ok4 .ensures,
+      c .before .field-ok5 .ensures,
+      c .field-ok6 .ensures,
+    )
 
 pub task-ok-spec : {M : Type 1} → statement M
 task-ok-spec =

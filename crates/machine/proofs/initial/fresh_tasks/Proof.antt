@@ -1,10 +1,8 @@
 -- `machine::initial::fresh_tasks` meets its contract. The loop's invariant: the tasks passed are fresh, the others all zero.
 use borrow.Author.Needs.{needs}
 use mathlib.Core.Path.{_≡_}
-use mathlib.Core.List.{_++_}
 use Prim.Native.Nat.{ℕ, _-_, _≤_}
 use native.Mathlib.Omega.{arith}
-use lib.ListN.{replicate}
 use Rattle.bitset.specs.Table.{table}
 use Rattle.bitset.specs.TableLaws.{length-table, table-more}
 use Rattle.lines.specs.declared.Task.{Task}

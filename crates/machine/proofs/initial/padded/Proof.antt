@@ -21,11 +21,13 @@ loop-holds : tie.Need-loop-holds Inv-loop μ-loop
 loop-holds c = (search needs, c .zero-table .ensures)
 
 loop-again : tie.Need-loop-again Inv-loop μ-loop
-loop-again c = let list = c .before .before .before .before .before .args .parents .now in
-    let q = c .before .before .loop .q in (
+loop-again c =
+    let l = c .before .before in
+    let list = l .before .before .before .args .parents .now in
+    let q = l .loop .q in (
       search needs,
-      rw (add-one q, take-suc list q 0 (c .before .loop-test .taken), ← add-one q, c .before .before .loop .inv .1)
-          (store-next (take q list) 64 q (getD list q 0) 0 (length-take-le q list (c .before .before .loop .inv .0)) (omega arith)),
+      rw (add-one q, take-suc list q 0 (c .before .loop-test .taken), ← add-one q, l .loop .inv .1)
+          (store-next (take q list) 64 q (getD list q 0) 0 (length-take-le q list (l .loop .inv .0)) (omega arith)),
     )
 
 returns : tie.Need-returns Inv-loop μ-loop

@@ -52,8 +52,9 @@ module _ (t : ℕ) where
 
   returns-2 : number-lts.Need-returns-2 (byte-reads.Asked, byte-reads.Learnt, number-below t, number.Post) (number-at t) number.Post
   returns-2 c =
-      let s = c .before .before .before .before .before in
-      rw (decimal-more (s .args .x) (omega (arith, s .fits .x)) (c .before .before .before .before .if1 .left))
+      let e = c .before .before .before .before in
+      let s = e .before in
+      rw (decimal-more (s .args .x) (omega (arith, s .fits .x)) (e .if1 .left))
       (prints-then (c .before .before .number .ensures) (c .byte2 .ensures))
 
 pub +number-spec : {M : Type 1} → statement M

@@ -20,19 +20,26 @@ loop-holds : tie.Need-loop-holds Inv-loop μ-loop
 unfolding rowsBy
 loop-holds c = (omega arith, record { next = omega arith; page = refl })
 
+-- the row's turn of the loop
+abbrev turn : tie.After-row-arg3 Inv-loop μ-loop → tie.In-loop Inv-loop μ-loop
+turn c = c .before .before .before
+
 row-requires : tie.Need-row-requires Inv-loop μ-loop
 row-requires c κs =
-    let l = c .before .before .before .before in
-    let a = l .before .before .args in
-    omega (arith, l .loop .inv .1 .next, l .before .before .pre .1, rows-within (ranRow (a .t3)) (a .n) (l .loop .q) (c .before .before .before .loop-test .taken))
+    let l = turn c .before in
+    let s = l .before .before in
+    omega (arith, l .loop .inv .1 .next, s .pre .1, rows-within (ranRow (s .args .t3)) (s .args .n) (l .loop .q) (turn c .loop-test .taken))
 
 loop-less : tie.Need-loop-less Inv-loop μ-loop
 loop-less c = omega arith
 
 loop-again : tie.Need-loop-again Inv-loop μ-loop
 loop-again c =
-    let l = c .before .before .before .before .before in
-    (omega (arith, c .before .before .before .before .loop-test .taken), rw (rows-more (ranRow (l .before .before .args .t3)) (l .loop .q)) (prints-then (l .loop .inv .1) (c .row .ensures)))
+    let t = turn (c .before) in
+    let l = t .before in (
+      omega (arith, t .loop-test .taken),
+      rw (rows-more (ranRow (l .before .before .args .t3)) (l .loop .q)) (prints-then (l .loop .inv .1) (c .row .ensures)),
+    )
 
 returns : tie.Need-returns Inv-loop μ-loop
 returns c =

@@ -129,9 +129,27 @@ Inv-loop text buffer₀ count₀ digits₀ value₀ i₀ buffer count digits val
 abbrev μ-loop : tie.MeasureT-loop
 μ-loop text buffer₀ count₀ digits₀ value₀ i₀ buffer count digits value i = length text - i
 
+-- ---- the loop's test, and a byte that was read
+
+abbrev Test : Type 0
+Test = tie.At-loop Inv-loop μ-loop
+
 -- there is room for a number that has begun
-room : (c : tie.At-loop Inv-loop μ-loop) → (c .loop .digits ≡ 0 → ⊥) → (c .loop .count < length (c .loop .buffer)) × (c .loop .count < 32768)
+room : (c : Test) → (c .loop .digits ≡ 0 → ⊥) → (c .loop .count < length (c .loop .buffer)) × (c .loop .count < 32768)
 room c ne = omega (arith, c .loop .inv .room, c .loop .inv .within, c .loop .inv .same, c .before .pre .0, c .before .pre .1)
+
+abbrev Byte : Type 0
+Byte = tie.After-shared-slice-known Inv-loop μ-loop
+
+abbrev test : Byte → Test
+test c = c .before .before
+
+abbrev less : (c : Byte) → test c .loop .i < length (test c .before .args .text .now)
+less c = c .before .loop-test .taken
+
+-- where it was a digit
+abbrev digit-read : tie.Then3 Inv-loop μ-loop → Byte
+digit-read c = c .before .before .before
 
 -- an answer that the text is bad
 refused : (o : Option (List ℕ)) (buffer : List ℕ) → o ≡ none → Reads o Bad buffer
@@ -146,74 +164,74 @@ loop-holds c =
     first (some ns) = refl
 
 mul-buffer : tie.Need-mul-buffer Inv-loop μ-loop
-mul-buffer c = omega (arith, room (c .before .before .before .before) (c .if1 .taken))
+mul-buffer c = omega (arith, room (test (c .before .before)) (c .if1 .taken))
 
 slice-write-buffer : tie.Need-slice-write-buffer Inv-loop μ-loop
-slice-write-buffer c = room (c .before .before .before .before) (c .if1 .taken) .0
+slice-write-buffer c = room (test (c .before .before)) (c .if1 .taken) .0
 
 add-count : tie.Need-add-count Inv-loop μ-loop
-add-count c = omega (arith, room (c .before .before .before .before) (c .if1 .taken))
+add-count c = omega (arith, room (test (c .before .before)) (c .if1 .taken))
 
 loop-less : tie.Need-loop-less Inv-loop μ-loop
 loop-less c = omega arith
 
 loop-again : tie.Need-loop-again Inv-loop μ-loop
 loop-again c =
-    let l = c .before .before .before .before in
-    ends (l .loop .inv) (c .before .before .before .loop-test .taken) (c .before .match .keys1) (c .if1 .taken) (room l (c .if1 .taken) .0)
+    let b = c .before .before in
+    ends (test b .loop .inv) (less b) (c .before .match .keys1) (c .if1 .taken) (room (test b) (c .if1 .taken) .0)
 
 loop-less-2 : tie.Need-loop-less-2 Inv-loop μ-loop
 loop-less-2 c = omega arith
 
 loop-again-2 : tie.Need-loop-again-2 Inv-loop μ-loop
-loop-again-2 c =
-    between (c .before .before .before .before .loop .inv) (c .before .before .before .loop-test .taken) (c .before .match .keys1) (c .if1 .left)
+loop-again-2 c = let b = c .before .before in between (test b .loop .inv) (less b) (c .before .match .keys1) (c .if1 .left)
 
 same-length : tie.Need-same-length Inv-loop μ-loop
-same-length c = c .before .before .before .before .before .before .loop .inv .same
+same-length c = test (digit-read (c .before)) .loop .inv .same
 
 returns : tie.Need-returns Inv-loop μ-loop
 returns c =
-    let l = c .before .before .before .before .before .before in
+    let b = digit-read (c .before) in
+    let l = test b in
     refused (numbersFrom 0 0 (l .before .args .text .now)) (l .loop .buffer)
-    (sixth (l .loop .inv) (c .before .before .before .before .before .loop-test .taken) (c .before .before .if2 .left) (c .before .if3 .taken) (c .if4 .taken))
+    (sixth (l .loop .inv) (less b) (c .before .before .if2 .left) (c .before .if3 .taken) (c .if4 .taken))
 
 add-digits : tie.Need-add-digits Inv-loop μ-loop
-add-digits c = omega (arith, c .before .before .before .before .before .before .loop .inv .few)
+add-digits c = omega (arith, test (digit-read (c .before)) .loop .inv .few)
 
 mul-value : tie.Need-mul-value Inv-loop μ-loop
-mul-value c = omega (arith, short (c .before .before .before .before .before .before .loop .inv) (c .if4 .left))
+mul-value c = omega (arith, short (test (digit-read (c .before)) .loop .inv) (c .if4 .left))
 
 add-value : tie.Need-add-value Inv-loop μ-loop
-add-value c = omega (arith, short (c .before .before .before .before .before .before .loop .inv) (c .if4 .left), c .before .if3 .taken)
+add-value c = omega (arith, short (test (digit-read (c .before)) .loop .inv) (c .if4 .left), c .before .if3 .taken)
 
 loop-less-3 : tie.Need-loop-less-3 Inv-loop μ-loop
 loop-less-3 c = omega arith
 
 loop-again-3 : tie.Need-loop-again-3 Inv-loop μ-loop
 loop-again-3 c =
-    digit (c .before .before .before .before .before .before .loop .inv) (c .before .before .before .before .before .loop-test .taken)
-    (c .before .before .if2 .left) (c .before .if3 .taken) (c .if4 .left)
+    let b = digit-read (c .before) in
+    digit (test b .loop .inv) (less b) (c .before .before .if2 .left) (c .before .if3 .taken) (c .if4 .left)
 
 same-length-2 : tie.Need-same-length-2 Inv-loop μ-loop
-same-length-2 c = c .before .before .before .before .loop .inv .same
+same-length-2 c = test (c .before .before) .loop .inv .same
 
 returns-2 : tie.Need-returns-2 Inv-loop μ-loop
 returns-2 c =
-    let l = c .before .before .before .before in
-    let k = c .before .match .rest .1 in
+    let b = c .before .before in
+    let l = test b in
     refused (numbersFrom 0 0 (l .before .args .text .now)) (l .loop .buffer)
-    (another (l .loop .inv) (c .before .before .before .loop-test .taken) k (inl (c .if2 .taken)))
+    (another (l .loop .inv) (less b) (c .before .match .rest .1) (inl (c .if2 .taken)))
 
 same-length-3 : tie.Need-same-length-3 Inv-loop μ-loop
-same-length-3 c = c .before .before .before .before .before .loop .inv .same
+same-length-3 c = test (c .before .before .before) .loop .inv .same
 
 returns-3 : tie.Need-returns-3 Inv-loop μ-loop
 returns-3 c =
-    let l = c .before .before .before .before .before in
-    let k = c .before .before .match .rest .1 in
+    let b = c .before .before .before in
+    let l = test b in
     refused (numbersFrom 0 0 (l .before .args .text .now)) (l .loop .buffer)
-    (another (l .loop .inv) (c .before .before .before .before .loop-test .taken) k (inr (c .if3 .left)))
+    (another (l .loop .inv) (less b) (c .before .before .match .rest .1) (inr (c .if3 .left)))
 
 mul-buffer-2 : tie.Need-mul-buffer-2 Inv-loop μ-loop
 mul-buffer-2 c = omega (arith, room (c .before .before) (c .if5 .taken))
