@@ -83,23 +83,36 @@ const BY_N: [(usize, usize); 4] = [(1, TURNS), (4, TURNS), (16, TURNS), (64, TUR
 
 /// How the library's time a turn goes with the number of turns, and with N.
 fn print_growth(rounds: usize) {
-    println!("The library's nanoseconds a turn, random schedules: by turns with N 12, and by N with {TURNS} turns; then the longest time by N over the shortest:\n");
-    head(&["kind", "1,024 turns", "8,192", "65,536", "N 1", "N 4", "N 16", "N 64", "over N"]);
-    let sizes = [&BY_TURNS[..], &BY_N[..]].concat();
+    println!("The library's nanoseconds a turn: by turns with N 12, and by N with {TURNS} turns; then the longest time by N over the shortest, of random schedules from N 4 on:\n");
+    head(&["kind", "schedule", "1,024 turns", "8,192", "65,536", "N 1", "N 4", "N 16", "N 64", "over N"]);
     for (kind, name) in KINDS {
-        let run = |&(n, turns)| Run::new(kind, n, Manner::Random.schedule(n, turns));
-        let mut runs: Vec<Run> = sizes.iter().map(run).collect();
-        let times = measure(&mut runs, rounds);
-        let a_turn = |(times, (_, turns)): (&Times, &(usize, usize))| times.library / *turns as f64;
-        let times: Vec<f64> = times.iter().zip(&sizes).map(a_turn).collect();
-        let by_n = &times[BY_TURNS.len()..];
-        let spread = highest(by_n.iter().copied()) / lowest(by_n.iter().copied());
-        let mut cells = vec![name.to_string()];
-        cells.extend(times.iter().copied().map(tenths));
-        cells.push(verdict(spread, targets::flat(kind)));
-        row(&cells);
+        for manner in Manner::ALL {
+            let times = growth(kind, manner, rounds);
+            let mut cells = vec![name.to_string(), manner.name().to_string()];
+            cells.extend(times.iter().copied().map(tenths));
+            cells.push(verdict(spread(manner, &times[BY_TURNS.len()..]), targets::flat(kind)));
+            row(&cells);
+        }
     }
     println!();
+}
+
+/// The library's nanoseconds a turn, for each number of turns and each N.
+fn growth(kind: u8, manner: Manner, rounds: usize) -> Vec<f64> {
+    let sizes = [&BY_TURNS[..], &BY_N[..]].concat();
+    let run = |&(n, turns)| Run::new(kind, n, manner.schedule(n, turns));
+    let mut runs: Vec<Run> = sizes.iter().map(run).collect();
+    let a_turn = |(times, (_, turns)): (Times, &(usize, usize))| times.library / *turns as f64;
+    measure(&mut runs, rounds).into_iter().zip(&sizes).map(a_turn).collect()
+}
+
+/// The longest time by N over the shortest. A schedule of one task is not random: the processor foresees all of it.
+fn spread(manner: Manner, by_n: &[f64]) -> f64 {
+    let counted = match manner {
+        Manner::Random => &by_n[1..],
+        Manner::RoundRobin => by_n,
+    };
+    highest(counted.iter().copied()) / lowest(counted.iter().copied())
 }
 
 /// The passes of 65,536 turns.
