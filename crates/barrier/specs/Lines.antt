@@ -9,7 +9,7 @@ use borrow.Author.Tests.{eqb-true, eqb-false, ltb-true}
 use Rattle.bitset.specs.ChoiceLaws.{by-test}
 use Rattle.lines.specs.declared.Task.{Task}
 use Rattle.lines.specs.declared.Effect.{Effect}
-use Rattle.lines.specs.declared.Act.the-variants.{Moves, Waits, Refuses}
+use Rattle.lines.specs.declared.Act.the-variants.{Moves}
 use Rattle.lines.specs.declared.Write.the-variants.{Nothing}
 use Rattle.lines.specs.Setters.{withLine, withLooked}
 use Rattle.lines.specs.Common.{maxCount, moves, waits, refuses, awaits, counts, choose}

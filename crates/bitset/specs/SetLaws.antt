@@ -268,3 +268,16 @@ within-size zero list other e = rw (eqb-true list 0 e) (omega (arith, ones-ones 
 within-size (suc w) list other e =
     let both = digits w list other e in
     omega (arith, both .0, within-size w (list / 2) (other / 2) (both .1), ones-step list, ones-step other)
+
+-- taking the least task off a set takes its power of two off the number
+pub without-least : (w q : ℕ) → 0 < q → q < 2 ^ w → put q (trailingZeros w q) 0 ≡ q - 2 ^ trailingZeros w q
+unfolding trailingZeros put
+without-least zero q p h = absurd (omega arith)
+without-least (suc w) q p h = go (q % 2) refl (λ pos. without-least w (q / 2) pos (omega (arith, pow-suc 2 w)))
+  where
+    t : ℕ
+    t = trailingZeros w (q / 2)
+
+    go : (b : ℕ) → q % 2 ≡ b → (0 < q / 2 → put (q / 2) t 0 ≡ q / 2 - 2 ^ t) → put q (under b t) 0 ≡ q - 2 ^ under b t
+    go zero e ih = let r = ih (omega arith) in omega (arith, r, pow-suc 2 t)
+    go (suc b) e ih = omega arith

@@ -85,7 +85,7 @@ rises b s ts i low counts cut =
 
 -- the moves of a round, all tasks together, are the M of the papers
 pub paper-M : (kind : ℕ) (h : kind ≤ 3) (s : State) → Holds kind (barrierOf kind h .Inv) s → movesOf (barrierOf kind h) s ≡ M s
-unfolding barrierOf symmetric increment ring tree
+unfolding barrierOf
 paper-M zero h s i = sum-const (s .n) (2 * s .n + 3) ∙ rw (i .kind)
 paper-M (suc zero) h s i = rw (i .kind) (omega (arith, sum-const (s .n) 5))
 paper-M (suc (suc zero)) h s i = rw (i .kind) (omega (arith, sum-const (s .n) 5))

@@ -13,7 +13,6 @@ use Rattle.machine.specs.TurnLaws.{turn-step}
 use Rattle.machine.specs.CountLaws.{seven-of-kind-1}
 use Rattle.barrier.specs.Barrier.{Holds}
 use Rattle.barrier.specs.Moves.{keeps-all}
-use Rattle.increment.specs.Increment.{increment}
 use Rattle.increment.specs.Safe.{never-7}
 use Rattle.guarantee.specs.Calls.{Call, turn, after, afterAll, counted, countedAll, Reached, fresh, called}
 use Rattle.guarantee.specs.Turns.{afterTurns, Leads, leads-call, leads-all}
@@ -59,7 +58,7 @@ reached-step s p r h = subst (λ t. Reached (t .state)) (turn-step s p (reached-
 
 -- 01, reason 7: "at a turn, the task is at 13 of kind 1 with arrivals already N, which no fresh state leads to"
 pub reached-7 : (s : State) (p : ℕ) → Reached s → reasonNumber (turnOf s p .outcome) ≢ 7
-unfolding barrierOf increment
+unfolding barrierOf
 reached-7 s p r e = go (k .kind) (k .low) (k .inv)
   where
     k : Known s

@@ -6,7 +6,8 @@ use mathlib.Core.Logic.{_⊎_, inl, inr}
 use Prim.Native.Nat.{ℕ}
 use lib.Dec.{eqb}
 use lib.ListN.{length, take}
-use borrow.Author.Tests.{eqb-true}
+use native.Mathlib.Decide.{ℕ-discrete}
+use borrow.Author.Tests.{eq-eqb, ne-eqb, eqb-true}
 use Rattle.bitset.specs.Choice.{pick}
 use Rattle.machine.specs.declared.State.{State}
 use Rattle.machine.specs.declared.Outcome.{Outcome}
@@ -16,8 +17,10 @@ use Rattle.machine.specs.TurnLaws.{refused-still}
 use Rattle.progress.specs.Counting.{AllCount}
 use Rattle.progress.specs.Counting
 use Rattle.runner.specs.Trace.{Trace, turned, traceOf, countedIn}
-use Rattle.runner.specs.Run.{unstopped, runReason, runPlace, runTrace, ranOf, refusedRun, runOf}
-use Rattle.guarantee.specs.Calls.{Call, turn, run, after, afterAll, countedTurn, counted, countedAll}
+use Rattle.runner.specs.TraceLaws.{trace-none, trace-turn}
+use Rattle.runner.specs.Run.{runReason, runOf}
+use Rattle.runner.specs.RunLaws.{run-accepts, run-refuses}
+use Rattle.guarantee.specs.Calls.{Call, turn, run, after, afterAll, countedTurn, countedRun, counted, countedAll}
 
 -- the state that a turn returns
 abbrev pub turned-to : State → ℕ → State
@@ -59,9 +62,8 @@ leads-turn s p = go (turnOf s p .outcome) refl
 
 -- the turns of a trace
 leads-trace : (s : State) (ts : List ℕ) → Leads s (countedIn (traceOf s ts)) (traceOf s ts .state)
-unfolding traceOf
-leads-trace s [] = record { to = refl; counts = tt }
-leads-trace s (p ∷ ts) = go (turnOf s p .outcome) refl (leads-trace (turnOf s p .state) ts)
+leads-trace s [] = rw (trace-none s) (record { to = refl; counts = tt })
+leads-trace s (p ∷ ts) = rw (trace-turn s p ts) (go (turnOf s p .outcome) refl (leads-trace (turnOf s p .state) ts))
   where
     rest : Trace
     rest = traceOf (turnOf s p .state) ts
@@ -73,17 +75,15 @@ leads-trace s (p ∷ ts) = go (turnOf s p .outcome) refl (leads-trace (turnOf s 
 
 -- a call
 pub leads-call : (s : State) (c : Call) → Leads s (counted s c) (after s c)
-unfolding runOf
 leads-call s (turn p) = leads-turn s p
-leads-call s (run schedule allowance log) = go (eqb (runReason s schedule allowance (length log)) 0)
+leads-call s (run schedule allowance log) = go (ℕ-discrete reason 0)
   where
     reason : ℕ
     reason = runReason s schedule allowance (length log)
 
-    go : (b : Bool) → Leads s (pick b (countedIn (runTrace s schedule allowance)) [])
-        (pick b (ranOf (runTrace s schedule allowance) (unstopped allowance (length schedule))) (refusedRun s reason (runPlace s schedule reason)) .state)
-    go true = leads-trace s (take allowance schedule)
-    go false = record { to = refl; counts = tt }
+    go : Dec (reason ≡ 0) → Leads s (countedRun s schedule allowance log) (runOf s schedule allowance log .state)
+    go (yes e) = rw (eq-eqb reason 0 e, run-accepts s schedule allowance log e) (leads-trace s (take allowance schedule))
+    go (no ne) = rw (ne-eqb reason 0 ne, run-refuses s schedule allowance log ne) (record { to = refl; counts = tt })
 
 -- all calls
 pub leads-all : (s : State) (cs : List Call) → Leads s (countedAll s cs) (afterAll s cs)

@@ -7,7 +7,7 @@ use Rattle.increment.specs.Moves.{someone}
 use Rattle.increment.specs.Round.{L, offset, within, skips, counts, own}
 use Rattle.increment.specs.Safe.{close, behind}
 
-unfoldable pub increment : Barrier 1
+abbrev pub increment : Barrier 1
 increment =
     record {
       Inv = Inv;

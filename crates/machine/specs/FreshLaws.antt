@@ -153,6 +153,11 @@ fresh-valid i e =
       rest = λ q m l. rw (zero-at (i .n) q (freshTask i) m l);
     })
 
+-- what a call answers besides the state
+pub fresh-reason : (i : Inputs) → freshOf i .reason ≡ freshReason i
+unfolding freshOf
+fresh-reason i = refl
+
 -- an accepted call gives the fresh state, a refused one the all-zero state
 pub fresh-accepted : (i : Inputs) → freshReason i ≡ 0 → freshOf i .state ≡ freshState i
 unfolding freshOf

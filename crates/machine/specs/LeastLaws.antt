@@ -36,3 +36,16 @@ least-le s q h = up-to-le s (s .n - 1) q (omega arith)
 pub least-attained : (s : State) → 0 < s .n → (q : ℕ) × (q < s .n) × (least s ≡ taskAt s q .count)
 unfolding least
 least-attained s h = let a = up-to-attained s (s .n - 1) in (a .0, omega (arith, a .1), a .2)
+
+-- it is found task by task
+pub least-is : (s : State) → least s ≡ leastUpTo s (s .n - 1)
+unfolding least
+least-is s = refl
+
+pub least-first : (s : State) → leastUpTo s 0 ≡ taskAt s 0 .count
+unfolding leastUpTo
+least-first s = refl
+
+pub least-next : (s : State) (m : ℕ) → leastUpTo s (suc m) ≡ min (leastUpTo s m) (taskAt s (suc m) .count)
+unfolding leastUpTo
+least-next s m = refl

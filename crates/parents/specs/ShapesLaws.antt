@@ -15,7 +15,6 @@ use lib.Seq.{getD-at, set-at, drop-cons, append-snoc}
 use borrow.Author.Tests.{eq-eqb, ne-eqb, le-leb, lt-leb}
 use Rattle.bitset.specs.Choice.{pick}
 use Rattle.bitset.specs.Tasks.{isCount}
-use Rattle.bitset.specs.Set.{put}
 use Rattle.parents.specs.Parents.{IsTree, checkOf}
 use Rattle.parents.specs.ParentsLaws.{accepts}
 use Rattle.parents.specs.Shapes.{powerOf, shapeParent, shapeTable, shapeOf, tableAfter}
@@ -35,19 +34,6 @@ power-highest (suc w) q p h = go (q % 2) refl (λ pos. power-highest w (q / 2) p
         let odd : ℕ = 2 * r .0 + 1 in
         (r .0, omega (arith, r .1, ap (λ (x : ℕ). odd * x) (pow-suc 2 t) ∙ sym (mul-assoc odd (2 ^ t) 2)))
     go (suc b) e ih = (q / 2, omega arith)
-
--- taking the least task off a set of tasks takes its power of two off the number
-pub without-least : (w q : ℕ) → 0 < q → q < 2 ^ w → put q (trailingZeros w q) 0 ≡ q - 2 ^ trailingZeros w q
-unfolding trailingZeros put
-without-least zero q p h = absurd (omega arith)
-without-least (suc w) q p h = go (q % 2) refl (λ pos. without-least w (q / 2) pos (omega (arith, pow-suc 2 w)))
-  where
-    t : ℕ
-    t = trailingZeros w (q / 2)
-
-    go : (b : ℕ) → q % 2 ≡ b → (0 < q / 2 → put (q / 2) t 0 ≡ q / 2 - 2 ^ t) → put q (under b t) 0 ≡ q - 2 ^ under b t
-    go zero e ih = let r = ih (omega arith) in omega (arith, r, pow-suc 2 t)
-    go (suc b) e ih = omega arith
 
 -- ---- the tables
 

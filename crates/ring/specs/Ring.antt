@@ -7,7 +7,7 @@ use Rattle.ring.specs.Moves.{someone}
 use Rattle.ring.specs.Round.{L, offset, within, counts, own}
 use Rattle.ring.specs.Safe.{close, behind}
 
-unfoldable pub ring : Barrier 2
+abbrev pub ring : Barrier 2
 ring =
     record {
       Inv = Inv;

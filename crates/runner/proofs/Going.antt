@@ -26,7 +26,7 @@ use Rattle.machine.specs.TurnLaws.{effect-rule, stored, turn-made, turn-refused
 use Rattle.machine.specs.KeepLaws.{turn-valid, looked-known, place-known}
 use Rattle.machine.specs.RangeLaws.{range}
 use Rattle.bitset.specs.Table.{table}
-use Rattle.bitset.specs.TableLaws.{table-at, table-set}
+use Rattle.bitset.specs.TableLaws.{table-at, table-set, table-same-value}
 use Rattle.schedule.specs.Passes.{allTasks}
 use Rattle.schedule.specs.PassesLaws.{all-known}
 use Rattle.runner.specs.Trace.{Row, Trace, nothing, refusal, traceOf}
@@ -49,9 +49,10 @@ pub record Going (s : State) (schedule log₀ : List ℕ) (i : ℕ) (state : Sta
 
 -- before the first turn
 pub going-none : (s : State) (schedule log₀ : List ℕ) → Valid s → Going s schedule log₀ 0 s (replicate 64 0) (replicate 64 0) log₀
-unfolding traceOf tallyIn table logOf
+unfolding traceOf tallyIn logOf
 going-none s schedule log₀ ok =
-    record { on = refl; here = refl; many = refl; moved = refl; waited = refl; logged = refl; valid = ok; tasks = refl; parents = refl }
+    let none : replicate {A = ℕ} 64 0 ≡ table 64 (λ q. 0) = sym (table-same-value 64 0) in
+    record { on = refl; here = refl; many = refl; moved = none; waited = none; logged = refl; valid = ok; tasks = refl; parents = refl }
 
 -- two bytes written to the tail of a log, as a part that was lent comes back
 rowed : (before tail : List ℕ) (k x y : ℕ) → length before ≡ k → 2 ≤ length tail

@@ -2,13 +2,13 @@
 use mathlib.Core.Path.{_≡_, refl, sym, ap, _∙_}
 use mathlib.Core.Bool.{Bool, true, false}
 use mathlib.Core.List.{List, [], _∷_, _++_}
-use mathlib.Core.Logic.{_⊎_, inl, inr}
+use mathlib.Core.Logic.{_≢_, _⊎_, inl, inr}
 use Prim.Native.Nat.{ℕ, suc, _+_, _*_, _≤_, _<_, min}
 use native.Mathlib.Omega.{arith}
 use lib.Dec.{eqb, leb, ltb}
 use lib.ListN.{length, take, getD, length-take}
 use lib.Seq.{getD-take}
-use borrow.Author.Tests.{eq-eqb, eqb-true, eqb-false}
+use borrow.Author.Tests.{eq-eqb, ne-eqb, le-leb, eqb-true, eqb-false}
 use Rattle.bitset.specs.Choice.{pick}
 use Rattle.bitset.specs.ChoiceLaws.{by-test}
 use Rattle.schedule.specs.Passes.{maxTurns, allTasks}
@@ -26,7 +26,7 @@ use Rattle.runner.specs.declared.Ending.the-variants.{Stopped}
 use Rattle.runner.specs.declared.Ran.{Ran}
 use Rattle.runner.specs.Trace.{Row, Stop, nothing, refusal, Trace, traceOf}
 use Rattle.runner.specs.TraceLaws.{made-few, turns-made, trace-keeps, StoppedAt, stopped-at}
-use Rattle.runner.specs.Run.{waitNumber, tallyIn, movesIn, waitsIn, logOf, unstopped, endingReason, runReason, runTrace, ranOf, runOf}
+use Rattle.runner.specs.Run.{waitNumber, tallyIn, movesIn, waitsIn, logOf, unstopped, endingReason, runReason, runPlace, runTrace, ranOf, refusedRun, runOf}
 
 -- ---- tallies
 
@@ -80,6 +80,27 @@ waits-few = tally-turns waitNumber light
 
 -- ---- the turns made
 
+-- a run is refused as a whole, or is what its trace gives
+module _ (s : State) (schedule : List ℕ) (allowance : ℕ) (log : List ℕ) where
+  -- the reason of this run
+  abbrev reason : ℕ
+  reason = runReason s schedule allowance (length log)
+
+  pub run-accepts : reason ≡ 0 → runOf s schedule allowance log ≡ ranOf (runTrace s schedule allowance) (unstopped allowance (length schedule))
+  unfolding runOf
+  run-accepts e = rw (eq-eqb reason 0 e)
+
+  pub run-refuses : reason ≢ 0 → runOf s schedule allowance log ≡ refusedRun s reason (runPlace s schedule reason)
+  unfolding runOf
+  run-refuses ne = rw (ne-eqb reason 0 ne)
+
+-- no reason applies
+pub run-unrefused : (s : State) (schedule : List ℕ) (allowance room : ℕ) → Valid s → length schedule ≤ maxTurns → allTasks (s .n) schedule ≡ true
+    → 2 * min allowance (length schedule) ≤ room → runReason s schedule allowance room ≡ 0
+unfolding runReason
+run-unrefused s schedule allowance room ok few known wide =
+    rw (eq-eqb (checkState s) 0 ok, le-leb (length schedule) maxTurns few, known, le-leb (2 * min allowance (length schedule)) room wide)
+
 -- what the reasons 7 and 9 do not refuse
 pub run-accepted : (s : State) (schedule : List ℕ) (allowance room : ℕ) → runReason s schedule allowance room ≡ 0 → Valid s × (allTasks (s .n) schedule ≡ true)
 unfolding runReason
@@ -102,8 +123,7 @@ pub data Makes (r : Ran) (schedule : List ℕ) (allowance : ℕ) : Type 0 where
 
 pub run-makes : (s : State) (schedule : List ℕ) (allowance : ℕ) (log : List ℕ) → runReason s schedule allowance (length log) ≡ 0
     → Makes (runOf s schedule allowance log) schedule allowance
-unfolding runOf
-run-makes s schedule allowance log e = rw (eq-eqb (runReason s schedule allowance (length log)) 0 e) (go (t .stop) refl)
+run-makes s schedule allowance log e = rw (run-accepts s schedule allowance log e) (go (t .stop) refl)
   where
     t : Trace
     t = runTrace s schedule allowance

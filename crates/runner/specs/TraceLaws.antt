@@ -16,6 +16,15 @@ use Rattle.runner.specs.Trace.{Stop, nothing, refusal, Trace, turned, tr
 refusal-stops : (p k : ℕ) → refusal p k ≡ nothing → ⊥
 refusal-stops p k e = let z : _≡_ {A = ℕ} 0 1 = cc in omega arith
 
+-- the trace of no turn, and one turn in front of a trace
+pub trace-none : (s : State) → traceOf s [] ≡ record { made = []; state = s; stop = nothing }
+unfolding traceOf
+trace-none s = refl
+
+pub trace-turn : (s : State) (p : ℕ) (ts : List ℕ) → traceOf s (p ∷ ts) ≡ turned s p (turnOf s p .outcome) (traceOf (turnOf s p .state) ts)
+unfolding traceOf
+trace-turn s p ts = refl
+
 -- a trace with more turns after it: it goes on where nothing stopped it
 abbrev pub onFrom : Stop → Trace → Trace → Trace
 onFrom nothing t rest = record { made = t .made ++ rest .made; state = rest .state; stop = rest .stop }

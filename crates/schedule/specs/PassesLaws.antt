@@ -4,17 +4,18 @@ use mathlib.Core.Path.{_≡_, refl, sym, ap, _∙_}
 use mathlib.Core.Logic.{_↔_}
 use mathlib.Core.Bool.{Bool, true, false, true≢false}
 use mathlib.Core.List.{List, [], _∷_, _++_, append-assoc, append-nil, flatten, map}
-use Prim.Native.Nat.{ℕ, zero, suc, _≤_, _<_}
+use Prim.Native.Nat.{ℕ, zero, suc, _*_, _≤_, _<_}
 use native.Mathlib.Decide.{decLt}
 use native.Mathlib.Omega.{arith}
 use lib.Dec.{ltb}
 use lib.ListN.{length, take, getD, length-append}
 use lib.Seq.{append-snoc, take-append-add}
-use borrow.Author.Tests.{ltb-true, ltb-false, eqb-true, eq-eqb}
+use borrow.Author.Tests.{ltb-true, ltb-false, eqb-true, eq-eqb, le-leb}
 use Rattle.bitset.specs.Choice.{pick}
+use Rattle.schedule.specs.declared.answer.Passes.the-variants.{Count, Refused}
 use Rattle.schedule.specs.Stretch.{namesAll, EachNamesAll, CutInto}
 use Rattle.schedule.specs.StretchLaws.{empty-unnamed, Covers, covers-named, covers-more, covers-longer}
-use Rattle.schedule.specs.Passes.{passesFrom, passesOf, unknownAt, allTasks}
+use Rattle.schedule.specs.Passes.{passesFrom, passesOf, maxTurns, unknownAt, allTasks, passesAnswer}
 
 -- the next turn ends the pass, or it does not
 pub next-turn : (n : ℕ) (since : List ℕ) (t : ℕ) (ts : List ℕ) (P : List (List ℕ) → Type 0)
@@ -194,6 +195,13 @@ unfolding passesFrom
 passes-few n since [] = omega arith
 passes-few n since (t ∷ ts) =
     next-turn n since t ts (λ ps. length ps ≤ suc (length ts)) (λ e. omega (arith, passes-few n [] ts)) (λ e. omega (arith, passes-few n (since ++ t ∷ []) ts))
+
+-- where 3, 8 and 10 refuse nothing, 9 alone is left
+pub passes-answered : (n : ℕ) (ts : List ℕ) (room : ℕ) → 1 ≤ n → n ≤ 64 → length ts ≤ maxTurns → 2 * length (passesOf n ts) ≤ room
+    → passesAnswer n ts room ≡ pick (allTasks n ts) (Count (length (passesOf n ts))) (Refused 9 (unknownAt n ts))
+unfolding passesAnswer
+passes-answered n ts room some few short wide =
+    rw (le-leb 1 n some, le-leb n 64 few, le-leb (length ts) maxTurns short, le-leb (2 * length (passesOf n ts)) room wide)
 
 -- turns that compare with N as others do have their first unknown one at the same place
 pub unknown-alike : (f : ℕ → ℕ) (n : ℕ) → ((x : ℕ) → ltb (f x) n ≡ ltb x n) → (ts : List ℕ) → unknownAt n (map f ts) ≡ unknownAt n ts

@@ -3,25 +3,27 @@ use mathlib.Core.Path.{_≡_, refl, sym, ap, _∙_}
 use mathlib.Core.Bool.{Bool, true, false}
 use mathlib.Core.List.{List, [], _∷_, _++_, map}
 use mathlib.Core.Logic.{_≢_}
-use Prim.Native.Nat.{ℕ, zero, suc, _-_, _*_, min, _≤_, _<_}
+use Prim.Native.Nat.{ℕ, zero, suc, _-_, min, _≤_, _<_}
 use native.Mathlib.Omega.{arith}
 use lib.ListN.{length, take, drop, getD, length-map}
 use lib.Seq.{take-at, take-length}
-use borrow.Author.Tests.{le-leb, eq-eqb, ne-eqb}
+use borrow.Author.Tests.{eq-eqb, ne-eqb}
 use Rattle.bitset.specs.Choice.{pick}
 use Rattle.bitset.specs.TableLaws.{table-at}
 use Rattle.schedule.specs.Passes.{passesOf, unknownAt, allTasks, passesAnswer}
 use Rattle.schedule.specs.declared.answer.Passes.the-variants.{Count, Refused}
-use Rattle.schedule.specs.PassesLaws.{passes-few}
+use Rattle.schedule.specs.PassesLaws.{passes-few, passes-answered}
 use Rattle.machine.specs.declared.State.{State}
 use Rattle.machine.specs.Fresh.{freshReason, freshState, freshOf}
 use Rattle.machine.specs.FreshLaws.{accepted-inputs, fresh-accepted}
-use Rattle.machine.specs.Range.{checkState, Valid}
+use Rattle.machine.specs.Range.{Valid}
 use Rattle.machine.specs.RangeLaws.{range}
-use Rattle.machine.specs.Least.{leastUpTo, least}
+use Rattle.machine.specs.Least.{leastUpTo}
+use Rattle.machine.specs.LeastLaws.{least-is}
 use Rattle.runner.specs.declared.Ran.{Ran}
 use Rattle.runner.specs.Trace.{Trace, traceOf}
-use Rattle.runner.specs.Run.{movesIn, waitsIn, unstopped, runReason, ranOf, runOf}
+use Rattle.runner.specs.Run.{movesIn, waitsIn, unstopped, ranOf, runOf}
+use Rattle.runner.specs.RunLaws.{run-accepts, run-unrefused}
 use Rattle.sheet_text.specs.declared.Cut.{Cut}
 use Rattle.sheet_text.specs.Cut.{cutOf}
 use Rattle.sheet_text.specs.Read.{Five, five, refused, readNumbers, checked, fiveOf}
@@ -55,9 +57,7 @@ low-drop (suc k) (x ∷ xs) ys =
 module _ (s : State) (ts : List ℕ) (ok : Valid s) (few : length ts ≤ 32768) where
   -- only 9 is left of the reasons that refuse passes
   answer : passesAnswer (s .n) ts 65536 ≡ pick (allTasks (s .n) ts) (Count (length (passesOf (s .n) ts))) (Refused 9 (unknownAt (s .n) ts))
-  unfolding passesAnswer
-  answer =
-      rw (le-leb 1 (s .n) (range s ok .some), le-leb (s .n) 64 (range s ok .few), le-leb (length ts) 65536 (omega arith), le-leb (2 * length (passesOf (s .n) ts)) 65536 (omega (arith, passes-few (s .n) [] ts)))
+  answer = passes-answered (s .n) ts 65536 (range s ok .some) (range s ok .few) (omega arith) (omega (arith, passes-few (s .n) [] ts))
 
   module _ (a : Cut) (e : a ≡ cutOf (passesAnswer (s .n) ts 65536)) where
     pub cut-refused : a .reason ≢ 0 → sheetFrom s ts ≡ refusalOf (a .reason) (a .place)
@@ -80,16 +80,14 @@ module _ (s : State) (ts : List ℕ) (ok : Valid s) (few : length ts ≤ 32768) 
   module _ (all : allTasks (s .n) ts ≡ true) where
     -- nothing refuses the run, and its allowance is enough
     ran : (log : List ℕ) → 65536 ≤ length log → runOf s ts (length ts) log ≡ ranOf (traceOf s ts) (unstopped (length ts) (length ts))
-    unfolding runOf runReason
-    ran log h =
-        rw (eq-eqb (checkState s) 0 ok, le-leb (length ts) 65536 (omega arith), all, le-leb (2 * min (length ts) (length ts)) (length log) (omega arith), take-length)
+    ran log h = rw (run-accepts s ts (length ts) log (run-unrefused s ts (length ts) (length log) ok (omega arith) all (omega arith)), take-length)
 
     -- its table, by what it answers
     pub ran-table : (log : List ℕ) → 65536 ≤ length log → (r : Ran) → r ≡ runOf s ts (length ts) log
         → tableWith (rowsBy (ranRow r) (s .n)) (length (passesOf (s .n) ts)) (leastUpTo (r .state) (s .n - 1)) ≡ tableFrom s ts
-    unfolding tableFrom least
+    unfolding tableFrom
     ran-table log h r e =
-        rw (e, ran log h, same-n s ts ok (omega arith))
+        rw (e, ran log h, least-is (traceOf s ts .state), same-n s ts ok (omega arith))
         (ap (λ (rows : List ℕ). tableWith rows (length (passesOf (s .n) ts)) (leastUpTo (traceOf s ts .state) (s .n - 1))) (rows-same (ranRow (ranOf t (unstopped (length ts) (length ts)))) (rowOf t) (s .n) same))
       where
         t : Trace

@@ -7,7 +7,7 @@ use Rattle.symmetric.specs.Moves.{someone}
 use Rattle.symmetric.specs.Round.{L, offset, within, counts, own}
 use Rattle.symmetric.specs.Safe.{close, behind}
 
-unfoldable pub symmetric : Barrier 0
+abbrev pub symmetric : Barrier 0
 symmetric =
     record {
       Inv = Inv;

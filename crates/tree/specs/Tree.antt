@@ -7,7 +7,7 @@ use Rattle.tree.specs.Moves.{someone}
 use Rattle.tree.specs.Round.{L, offset, within, counts, own}
 use Rattle.tree.specs.Safe.{close, behind}
 
-unfoldable pub tree : Barrier 3
+abbrev pub tree : Barrier 3
 tree =
     record {
       Inv = Inv;

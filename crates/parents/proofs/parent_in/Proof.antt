@@ -3,7 +3,8 @@ use borrow.Author.Needs.{needs}
 use mathlib.Core.Path.{sym, ap, _∙_}
 use Prim.Native.Nat.{ℕ}
 use Rattle.parents.specs.Shapes.{shapeParent}
-use Rattle.parents.specs.ShapesLaws.{shape-root, without-least}
+use Rattle.bitset.specs.SetLaws.{without-least}
+use Rattle.parents.specs.ShapesLaws.{shape-root}
 use native.Mathlib.Omega.{arith}
 use borrow.Author.Tests.{ne-eqb}
 use Rattle.bitset.specs.Set.{withoutOf}

@@ -9,7 +9,7 @@ use lib.ListN.{length, take, drop, getD, replicate, length-drop, length-map, len
 use lib.Seq.{take-all, length-take-le}
 use Rattle.machine.specs.declared.Fresh.{Fresh}
 use Rattle.machine.specs.Fresh.{freshReason, freshOf}
-use Rattle.machine.specs.FreshLaws.{fresh-accepted, fresh-valid}
+use Rattle.machine.specs.FreshLaws.{fresh-reason, fresh-accepted, fresh-valid}
 use Rattle.machine.specs.Range.{Valid}
 use Rattle.sheet_text.specs.Read.{Five, parentCount, fiveOf, readNumbers}
 use Rattle.sheet_text.specs.Print.{printed, refusalOf}
@@ -39,16 +39,15 @@ module _ (ns : List ℕ) (enough : 3 ≤ length ns) where
     turns = rw (e, q, ← long) (low-drop (parentCount (getD ns 0 0) (getD ns 1 0)) (drop 3 ns) zs)
 
   module _ (r : Fresh) (e : r ≡ freshOf (lowInputs (said ns .inputs))) where
+    why : r .reason ≡ freshReason (lowInputs (said ns .inputs))
+    why = ap (λ (x : Fresh). x .reason) e ∙ fresh-reason (lowInputs (said ns .inputs))
+
     refused : r .reason ≢ 0 → printed (readNumbers ns) ≡ refusalOf (r .reason) 0
-    unfolding freshOf
-    refused ne =
-        let k : r .reason ≡ freshReason (lowInputs (said ns .inputs)) = ap (λ (x : Fresh). x .reason) e in
-        rw (three ns enough, k) (low-refused (said ns) (λ z. ne (k ∙ z)))
+    refused ne = rw (three ns enough, why) (low-refused (said ns) (λ z. ne (why ∙ z)))
 
     module _ (z : r .reason ≡ 0) where
       none : freshReason (lowInputs (said ns .inputs)) ≡ 0
-      unfolding freshOf
-      none = sym (ap (λ (x : Fresh). x .reason) e) ∙ z
+      none = sym why ∙ z
 
       valid : Valid (r .state)
       valid = rw (e, fresh-accepted (lowInputs (said ns .inputs)) none) (fresh-valid (lowInputs (said ns .inputs)) none)

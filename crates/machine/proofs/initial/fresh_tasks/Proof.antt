@@ -4,7 +4,7 @@ use mathlib.Core.Path.{_≡_}
 use Prim.Native.Nat.{ℕ, _-_, _≤_}
 use native.Mathlib.Omega.{arith}
 use Rattle.bitset.specs.Table.{table}
-use Rattle.bitset.specs.TableLaws.{length-table, table-more}
+use Rattle.bitset.specs.TableLaws.{length-table, table-none, table-more}
 use Rattle.lines.specs.declared.Task.{Task}
 use Rattle.lines.specs.Setters.{zeroTask, withLine}
 use Rattle.machine.specs.Fresh.{freshTasks}
@@ -22,8 +22,7 @@ abbrev μ-loop : tie.MeasureT-loop
 μ-loop n all₀ q₀ all q = n - q
 
 loop-holds : tie.Need-loop-holds Inv-loop μ-loop
-unfolding table
-loop-holds c = (search needs, c .zero-tasks .ensures)
+loop-holds c = (search needs, rw (table-none fresh) (c .zero-tasks .ensures))
 
 loop-again : tie.Need-loop-again Inv-loop μ-loop
 loop-again c = let q = c .before .before .loop .q in (

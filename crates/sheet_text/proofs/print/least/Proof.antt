@@ -1,5 +1,5 @@
 -- `least` meets its contract: the least count of the tasks passed.
-use mathlib.Core.Path.{_≡_, refl}
+use mathlib.Core.Path.{_≡_, sym}
 use mathlib.Core.Logic.{⊎-elim}
 use Prim.Native.Nat.{ℕ, zero, suc, _+_, _-_, min, max, _≤_}
 use native.Mathlib.Omega.{arith}
@@ -7,6 +7,7 @@ use borrow.Author.Needs.{needs}
 use Rattle.machine.specs.declared.State.{State}
 use Rattle.machine.specs.Setters.{taskAt}
 use Rattle.machine.specs.Least.{leastUpTo}
+use Rattle.machine.specs.LeastLaws.{least-first, least-next}
 use Rattle.sheet_text.proofs.print.least.Statement.{statement}
 use Rattle.sheet_text.proofs.print.least.Tie as tie
 
@@ -18,16 +19,14 @@ abbrev μ-loop : tie.MeasureT-loop
 
 -- one task more
 more : (s : State) (q : ℕ) → 1 ≤ q → leastUpTo s (q + 1 - 1) ≡ min (leastUpTo s (q - 1)) (taskAt s q .count)
-unfolding leastUpTo
 more s zero h = absurd (omega arith)
 more s (suc q) h =
     let a : suc q + 1 - 1 ≡ suc q = omega arith in
     let b : suc q - 1 ≡ q = omega arith in
-    rw (a, b)
+    rw (a, b) (least-next s q)
 
 loop-holds : tie.Need-loop-holds Inv-loop μ-loop
-unfolding leastUpTo
-loop-holds c = (omega arith, omega arith, refl)
+loop-holds c = (omega arith, omega arith, sym (least-first _))
 
 loop-less : tie.Need-loop-less Inv-loop μ-loop
 loop-less c = omega arith
