@@ -13,6 +13,7 @@ pub struct Start {
     pub n: usize,
     pub modulus: usize,
     pub parents: Vec<u8>,
+    pub starts: Vec<u8>,
     pub schedule: Vec<u8>,
 }
 

@@ -1,7 +1,7 @@
 //! The second program, by the functions of the library, to compare it with.
 
 use crate::answer::{Answer, Start, NOBODY, PAGE};
-use crate::compared::machine::{self, Ending, Outcome, Report, State};
+use crate::compared::machine::{self, Ending, Outcome, Report, State, Tables};
 use crate::compared::refusal::Refusal;
 use crate::compared::{passes as cut, sheet as printed};
 
@@ -48,7 +48,8 @@ pub fn sheet(text: &[u8], page: &mut [u8; PAGE]) -> usize {
 /// The whole schedule, run from a fresh state.
 fn run_from(state: &mut State, start: &Start, log: &mut [u8]) -> Answer {
     let [kind, n, modulus] = [start.kind, start.n, start.modulus].map(|number| number as u64);
-    match machine::fresh(state, kind, n, modulus, &start.parents) {
+    let tables = Tables { parents: &start.parents, starts: &start.starts };
+    match machine::fresh(state, kind, n, modulus, tables) {
         Ok(()) => told(machine::run(state, &start.schedule, start.schedule.len() as u64, log)),
         Err(refusal) => refused(refusal),
     }

@@ -16,9 +16,9 @@ const ROUNDS: usize = 8;
 
 /// The reasons that each function can answer, 0 among them.
 const REASONS: [(Function, &[u8]); 5] = [
-    (Function::Run, &[0, 2, 3, 4, 5, 6, 8, 9, 10]),
-    (Function::Turn, &[0, 2, 3, 4, 5, 6, 8, 9, 10]),
-    (Function::Ready, &[0, 2, 3, 4, 5, 6, 8, 9, 10]),
+    (Function::Run, &[0, 2, 3, 4, 5, 6, 8, 9, 10, 12]),
+    (Function::Turn, &[0, 2, 3, 4, 5, 6, 8, 9, 10, 12]),
+    (Function::Ready, &[0, 2, 3, 4, 5, 6, 8, 9, 10, 12]),
     (Function::Passes, &[0, 3, 8, 9, 10]),
     (Function::Sheet, &[0, 1, 2, 3, 4, 5, 6, 9]),
 ];

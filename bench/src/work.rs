@@ -2,7 +2,7 @@
 
 use crate::answer::{Answer, Start, PAGE};
 use crate::library;
-use crate::measured::machine::{fresh, run, Ending, State, SYMMETRIC, TREE};
+use crate::measured::machine::{fresh, run, Ending, State, Tables, SYMMETRIC, TREE};
 use crate::measured::random::Random;
 use crate::measured::{passes, schedules, shapes, sheet};
 
@@ -60,7 +60,8 @@ impl Run {
         let logs = || (UNDONE, vec![0; 2 * schedule.len()]);
         let (ours, theirs) = (logs(), logs());
         let modulus = if kind == SYMMETRIC { 3 } else { 0 };
-        let start = Start { kind: kind.into(), n, modulus, parents: parents(kind, n), schedule };
+        let (kind, parents, starts) = (kind.into(), parents(kind, n), Vec::new());
+        let start = Start { kind, n, modulus, parents, starts, schedule };
         Run { start, ours, theirs }
     }
 }
@@ -90,9 +91,10 @@ impl Work for Run {
     }
 
     fn baseline(&mut self) {
-        let Start { kind, n, modulus, parents, schedule } = &self.start;
+        let Start { kind, n, modulus, parents, starts, schedule } = &self.start;
+        let tables = Tables { parents, starts };
         let mut state = State::ZERO;
-        if fresh(&mut state, *kind as u64, *n as u64, *modulus as u64, parents).is_err() {
+        if fresh(&mut state, *kind as u64, *n as u64, *modulus as u64, tables).is_err() {
             return;
         }
         let report = run(&mut state, schedule, schedule.len() as u64, &mut self.theirs.1);

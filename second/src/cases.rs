@@ -2,12 +2,14 @@
 
 mod calls;
 mod damage;
+mod fresh;
 mod limits;
 mod long;
 pub mod malformed;
 mod ranges;
 mod refusals;
 pub mod scenes;
+mod starts;
 mod steps;
 mod table;
 mod trees;
@@ -41,6 +43,7 @@ fn stored() -> Recorder {
     refusals::cases(&mut recorder);
     limits::cases(&mut recorder);
     ranges::cases(&mut recorder);
+    starts::cases(&mut recorder);
     trees::cases(&mut recorder);
     malformed::cases(&mut recorder);
     long::cases(&mut recorder, &mut random);

@@ -30,11 +30,23 @@ pub struct Task {
     pub toggle: u8,
     /// Tree: set by the task, cleared by its parent.
     pub flag: u8,
+    /// Symmetric: the task from which line 13 looks for the next one.
+    pub start: u8,
 }
 
 impl Task {
-    pub const ZERO: Task =
-        Task { list: 0, count: 0, line: 0, tag: 0, old: 0, looked: 0, aim: 0, toggle: 0, flag: 0 };
+    pub const ZERO: Task = Task {
+        list: 0,
+        count: 0,
+        line: 0,
+        tag: 0,
+        old: 0,
+        looked: 0,
+        aim: 0,
+        toggle: 0,
+        flag: 0,
+        start: 0,
+    };
 }
 
 /// One barrier: its kind, N and R, what its tasks share, and tasks 0 to N - 1.
@@ -72,29 +84,46 @@ pub enum Outcome {
 
 // ---- fresh ----
 
+/// The tables that a fresh state is given.
+#[derive(Clone, Copy, Debug)]
+pub struct Tables<'a> {
+    /// A tree's parents; empty for the other kinds.
+    pub parents: &'a [u8],
+    /// The starts of a symmetric barrier, or empty: then every start is 0.
+    pub starts: &'a [u8],
+}
+
+impl Tables<'_> {
+    /// No table but the parents.
+    pub fn of_parents(parents: &[u8]) -> Tables<'_> {
+        Tables { parents, starts: &[] }
+    }
+}
+
 /// Makes the state fresh. Where this is refused, all fields are 0.
 pub fn fresh(
     state: &mut State,
     kind: u64,
     n: u64,
     modulus: u64,
-    parents: &[u8],
+    tables: Tables,
 ) -> Result<(), Refusal> {
     *state = State::ZERO;
-    check_fresh(kind, n, modulus, parents)?;
+    check_fresh(kind, n, modulus, tables)?;
     state.kind = kind as u8;
     state.n = n as u8;
     state.modulus = modulus as u8;
     state.sense = u8::from(state.kind == FETCH_AND_INCREMENT);
-    state.parents[..parents.len()].copy_from_slice(parents);
-    for task in &mut state.tasks[..n as usize] {
+    state.parents[..tables.parents.len()].copy_from_slice(tables.parents);
+    for (number, task) in state.tasks[..n as usize].iter_mut().enumerate() {
         task.line = 11;
+        task.start = tables.starts.get(number).copied().unwrap_or(0);
     }
     Ok(())
 }
 
-/// Checks 2 to 6.
-fn check_fresh(kind: u64, n: u64, modulus: u64, parents: &[u8]) -> Result<(), Refusal> {
+/// Checks 2 to 6, then 12.
+fn check_fresh(kind: u64, n: u64, modulus: u64, tables: Tables) -> Result<(), Refusal> {
     if kind > u64::from(TREE) {
         return Err(Refusal::Kind);
     }
@@ -103,11 +132,14 @@ fn check_fresh(kind: u64, n: u64, modulus: u64, parents: &[u8]) -> Result<(), Re
     if !modulus_fits(kind, modulus) {
         return Err(Refusal::Modulus);
     }
-    if parents.len() != if kind == TREE { n } else { 0 } {
+    if tables.parents.len() != if kind == TREE { n } else { 0 } {
         return Err(Refusal::TableLength);
     }
-    if !parents_fit(parents) {
+    if !parents_fit(tables.parents) {
         return Err(Refusal::Parent);
+    }
+    if !starts_fit(kind, n, tables.starts) {
+        return Err(Refusal::Starts);
     }
     Ok(())
 }
@@ -124,6 +156,12 @@ fn modulus_fits(kind: u8, modulus: u64) -> bool {
 /// The root's entry is 0, and every other parent is a lower number than its child.
 fn parents_fit(parents: &[u8]) -> bool {
     parents.iter().enumerate().all(|(task, &parent)| usize::from(parent) < task.max(1))
+}
+
+/// There is no start table, or it has an entry below n for each task of a symmetric barrier.
+fn starts_fit(kind: u8, n: usize, starts: &[u8]) -> bool {
+    let whole = kind == SYMMETRIC && starts.len() == n;
+    starts.is_empty() || (whole && starts.iter().all(|&start| usize::from(start) < n))
 }
 
 // ---- turn ----
@@ -205,7 +243,10 @@ fn symmetric(state: &mut State, task: usize) {
             own.list = everyone;
             own.line = 13;
         }
-        13 => look(own, 11),
+        13 => {
+            let start = own.start;
+            look(own, start, 11);
+        }
         14 => take_off(own),
         line => no_such_line(line),
     }
@@ -264,7 +305,7 @@ fn tree(state: &mut State, task: usize) {
     match state.tasks[task].line {
         11 => state.tasks[task].line = 12,
         12 => list_children(state, task, 13),
-        13 => look(&mut state.tasks[task], 15),
+        13 => look(&mut state.tasks[task], 0, 15),
         14 => take_off(&mut state.tasks[task]),
         15 => {
             let own = &mut state.tasks[task];
@@ -281,13 +322,15 @@ fn tree(state: &mut State, task: usize) {
     }
 }
 
-/// Looks at the least task on the list, or leaves the loop for the line given if it is empty.
-fn look(own: &mut Task, exit: u8) {
-    if own.list == 0 {
-        own.line = exit;
-    } else {
-        own.looked = least(own.list) as u8;
-        own.line = 14;
+/// Looks at the first listed task from the start on. Where none is listed, leaves the loop for the
+/// line given.
+fn look(own: &mut Task, start: u8, exit: u8) {
+    match first_from(start, own.list) {
+        Some(task) => {
+            own.looked = task;
+            own.line = 14;
+        }
+        None => own.line = exit,
     }
 }
 
@@ -323,6 +366,13 @@ fn no_such_line(line: u8) {
 /// nz of the ring: 1 for every task but 0.
 fn nonzero(task: usize) -> u8 {
     u8::from(task != 0)
+}
+
+/// The first listed task at or above the start, going round to 0 after the last.
+fn first_from(start: u8, list: u64) -> Option<u8> {
+    let above = list & u64::MAX.checked_shl(u32::from(start)).unwrap_or(0);
+    let listed = if above != 0 { above } else { list };
+    (listed != 0).then(|| least(listed) as u8)
 }
 
 /// The least task on a list that isn't empty.
@@ -389,6 +439,7 @@ fn highest_fields(state: &State) -> Task {
             highest.tag = state.modulus - 1;
             highest.old = state.modulus - 1;
             highest.looked = state.n - 1;
+            highest.start = state.n - 1;
         }
         FETCH_AND_INCREMENT => {
             highest.line = 16;
@@ -432,6 +483,7 @@ fn task_in_range(task: &Task, highest: &Task, list: u64) -> bool {
         && task.aim <= highest.aim
         && task.toggle <= highest.toggle
         && task.flag <= highest.flag
+        && task.start <= highest.start
         && task.list & !list == 0
 }
 

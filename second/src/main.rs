@@ -16,6 +16,7 @@ mod sheet;
 mod sheets;
 mod soak;
 mod spelling;
+mod starts;
 
 #[cfg(test)]
 mod tests;

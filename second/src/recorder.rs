@@ -1,6 +1,6 @@
 //! Records requests together with the answers that the replay gives to them.
 
-use super::machine::State;
+use super::machine::{State, Tables, SYMMETRIC};
 use super::requests::{field_value, Replay};
 
 #[derive(Default)]
@@ -50,6 +50,18 @@ impl Recorder {
     /// Request 1.
     pub fn fresh(&mut self, kind: u64, n: u64, modulus: u64, parents: &[u8]) {
         self.ask(line(&[1, kind, n, modulus], parents));
+    }
+
+    /// Request 10 with a parent and a start table.
+    pub fn fresh_with(&mut self, kind: u64, n: u64, modulus: u64, tables: Tables) {
+        let lengths = [tables.parents, tables.starts].map(|table| table.len() as u64);
+        let numbers = [10, kind, n, modulus, lengths[0], lengths[1], 0];
+        self.ask(line(&numbers, &[tables.parents, tables.starts].concat()));
+    }
+
+    /// Request 10 of a symmetric barrier with R 3 and these starts.
+    pub fn fresh_starts(&mut self, n: u64, starts: &[u8]) {
+        self.fresh_with(SYMMETRIC.into(), n, 3, Tables { parents: &[], starts });
     }
 
     /// Request 2.

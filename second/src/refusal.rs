@@ -35,6 +35,8 @@ pub enum Refusal {
     Buffer,
     /// 11: the turn would raise a count that is at its limit.
     CountLimit,
+    /// 12: the start table's length doesn't fit the kind, or an entry is no task.
+    Starts,
 }
 
 impl Refusal {
@@ -52,6 +54,7 @@ impl Refusal {
             Refusal::Task | Refusal::TaskAt(_) => 9,
             Refusal::Buffer => 10,
             Refusal::CountLimit => 11,
+            Refusal::Starts => 12,
         }
     }
 }

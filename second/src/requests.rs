@@ -1,6 +1,6 @@
 //! The replay: reads request lines, keeps one state, and gives one answer line for each.
 
-use super::machine::{fresh, ready, run, turn, Ending, Outcome, Report, State, Task};
+use super::machine::{fresh, ready, run, turn, Ending, Outcome, Report, State, Tables, Task};
 use super::passes::{first_pass, passes};
 use super::shapes::shape;
 use std::fmt::{Display, Write};
@@ -13,10 +13,13 @@ const MAX_DIGITS: usize = 20;
 
 /// The most entries of each part of a request.
 const MAX_REQUEST_TURNS: usize = 70_000;
-const MAX_REQUEST_PARENTS: usize = 4_096;
+const MAX_REQUEST_TABLE: usize = 4_096;
 const MAX_LOG: u64 = 131_072;
 const MAX_LIST: u64 = 131_072;
 const MAX_TABLE: u64 = 4_096;
+
+/// The numbers of a task's fields in request 6. Request 5 shows them in this order.
+pub const TASK_FIELDS: [u64; 10] = [0, 1, 2, 3, 4, 5, 6, 7, 8, 15];
 
 /// The answer to a line that is no request.
 const BAD_LINE: &str = "bad line";
@@ -48,7 +51,9 @@ impl Replay {
     /// The answer to one request, or none if there is no such request.
     fn request(&mut self, numbers: &[u64]) -> Option<String> {
         match numbers {
-            [1, kind, n, modulus, parents @ ..] => self.fresh(*kind, *n, *modulus, parents),
+            [1, kind, n, modulus, parents @ ..] => {
+                self.fresh_with_parents([*kind, *n, *modulus], parents)
+            }
             [2, task] => Some(self.turn(*task)),
             [3] => Some(self.ready()),
             [4, allowance, length, turns @ ..] => self.run(*allowance, *length, turns),
@@ -57,17 +62,38 @@ impl Replay {
             [7, n, length, turns @ ..] => answer_passes(*n, *length, turns),
             [8, n, place, turns @ ..] => answer_first_pass(*n, *place, turns),
             [9, shape, n, length] => answer_shape(*shape, *n, *length),
+            [10, kind, n, modulus, parents, starts, 0, entries @ ..] => {
+                self.fresh_with_tables([*kind, *n, *modulus], [*parents, *starts], entries)
+            }
             _ => None,
         }
     }
 
     /// Request 1.
-    fn fresh(&mut self, kind: u64, n: u64, modulus: u64, parents: &[u64]) -> Option<String> {
-        let parents = bytes(parents, MAX_REQUEST_PARENTS)?;
-        Some(match fresh(&mut self.state, kind, n, modulus, &parents) {
+    fn fresh_with_parents(&mut self, head: [u64; 3], parents: &[u64]) -> Option<String> {
+        let parents = bytes(parents, MAX_REQUEST_TABLE)?;
+        Some(self.fresh(head, Tables::of_parents(&parents)))
+    }
+
+    /// Request 10: the entries are a parent and a start table of these lengths and nothing else.
+    fn fresh_with_tables(
+        &mut self,
+        head: [u64; 3],
+        lengths: [u64; 2],
+        entries: &[u64],
+    ) -> Option<String> {
+        let (parents, rest) = first_table(entries, lengths[0])?;
+        let (starts, rest) = first_table(rest, lengths[1])?;
+        let tables = Tables { parents: &parents, starts: &starts };
+        rest.is_empty().then(|| self.fresh(head, tables))
+    }
+
+    /// A fresh state of a kind, N and R; it is kept.
+    fn fresh(&mut self, [kind, n, modulus]: [u64; 3], tables: Tables) -> String {
+        match fresh(&mut self.state, kind, n, modulus, tables) {
             Ok(()) => "0".to_string(),
             Err(refusal) => refusal.to_string(),
-        })
+        }
     }
 
     /// Request 2.
@@ -111,7 +137,7 @@ impl Replay {
     fn change(&mut self, field: u64, task: u64, value: u64) -> Option<String> {
         let task = usize::try_from(task).ok()?;
         match field {
-            0..=8 => change_task(self.state.tasks.get_mut(task)?, field, value)?,
+            0..=8 | 15 => change_task(self.state.tasks.get_mut(task)?, field, value)?,
             9..=13 if task == 0 => *shared_field(&mut self.state, field) = byte(value)?,
             14 => *self.state.parents.get_mut(task)? = byte(value)?,
             _ => return None,
@@ -120,8 +146,8 @@ impl Replay {
     }
 }
 
-/// The fields of a task in the order of requests 5 and 6.
-fn task_fields(task: &Task) -> [u64; 9] {
+/// The fields of a task in the order of their numbers.
+fn task_fields(task: &Task) -> [u64; TASK_FIELDS.len()] {
     [
         task.line.into(),
         task.count.into(),
@@ -132,6 +158,7 @@ fn task_fields(task: &Task) -> [u64; 9] {
         task.aim.into(),
         task.toggle.into(),
         task.flag.into(),
+        task.start.into(),
     ]
 }
 
@@ -140,7 +167,8 @@ pub fn field_value(state: &State, field: u64, task: usize) -> u64 {
     match field {
         0..=8 => task_fields(&state.tasks[task])[field as usize],
         9..=13 => shared_fields(state)[field as usize - 9].into(),
-        _ => state.parents[task].into(),
+        14 => state.parents[task].into(),
+        _ => state.tasks[task].start.into(),
     }
 }
 
@@ -149,7 +177,7 @@ fn shared_fields(state: &State) -> [u8; 5] {
     [state.kind, state.n, state.modulus, state.arrivals, state.sense]
 }
 
-/// Changes one of fields 0 to 8 if the value fits its type.
+/// Changes one of a task's fields if the value fits its type.
 fn change_task(task: &mut Task, field: u64, value: u64) -> Option<()> {
     match field {
         0 => task.line = byte(value)?,
@@ -160,7 +188,8 @@ fn change_task(task: &mut Task, field: u64, value: u64) -> Option<()> {
         5 => task.looked = byte(value)?,
         6 => task.aim = byte(value)?,
         7 => task.toggle = byte(value)?,
-        _ => task.flag = byte(value)?,
+        8 => task.flag = byte(value)?,
+        _ => task.start = byte(value)?,
     }
     Some(())
 }
@@ -259,6 +288,12 @@ fn bytes(numbers: &[u64], most: usize) -> Option<Vec<u8>> {
         return None;
     }
     numbers.iter().map(|&number| byte(number)).collect()
+}
+
+/// The first entries as a table of so many bytes, and the entries after it.
+fn first_table(entries: &[u64], length: u64) -> Option<(Vec<u8>, &[u64])> {
+    let (table, rest) = entries.split_at_checked(usize::try_from(length).ok()?)?;
+    Some((bytes(table, MAX_REQUEST_TABLE)?, rest))
 }
 
 /// A buffer to lend, filled with one value, if it isn't too long.

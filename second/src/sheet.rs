@@ -1,6 +1,6 @@
 //! The sheet: a text of numbers in, the table of a whole run or a refusal out.
 
-use super::machine::{fresh, run, Ending, Report, State, TREE};
+use super::machine::{fresh, run, Ending, Report, State, Tables, TREE};
 use super::passes::Passes;
 use super::refusal::Refusal;
 use std::fmt::Write;
@@ -28,7 +28,7 @@ fn whole_run(text: &[u8]) -> Result<String, Refusal> {
     let entries = if *kind == u64::from(TREE) { *n } else { 0 };
     let (parents, schedule) = rest.split_at(entries.min(rest.len() as u64) as usize);
     let mut state = State::ZERO;
-    fresh(&mut state, *kind, *n, *modulus, &bytes(parents))?;
+    fresh(&mut state, *kind, *n, *modulus, Tables::of_parents(&bytes(parents)))?;
     let schedule = bytes(schedule);
     let mut log = vec![0; 2 * schedule.len()];
     let report = run(&mut state, &schedule, schedule.len() as u64, &mut log);

@@ -3,6 +3,7 @@
 use super::cases::Case;
 use crate::answer::{Answer, Start, PAGE};
 use crate::{baseline, library};
+use std::collections::BTreeMap;
 use std::fmt::Debug;
 
 /// The exported functions.
@@ -30,19 +31,18 @@ impl Function {
 /// The calls made: for each function the number of those that answered each reason.
 #[derive(Default)]
 pub struct Calls {
-    answered: [[usize; 12]; 5],
+    answered: [BTreeMap<u8, usize>; 5],
 }
 
 impl Calls {
     /// The calls made of a function.
     pub fn made(&self, function: Function) -> usize {
-        self.answered[function as usize].iter().sum()
+        self.answered[function as usize].values().sum()
     }
 
     /// The reasons that a function has answered.
     pub fn reasons(&self, function: Function) -> Vec<u8> {
-        let answered = &self.answered[function as usize];
-        (0..12).filter(|&reason| answered[usize::from(reason)] > 0).collect()
+        self.answered[function as usize].keys().copied().collect()
     }
 
     /// The four functions that take a schedule.
@@ -99,7 +99,7 @@ impl Calls {
         if ours != theirs {
             return Err(difference(function, &ours, &theirs, input));
         }
-        self.answered[function as usize][usize::from(reason(theirs.0))] += 1;
+        *self.answered[function as usize].entry(reason(theirs.0)).or_default() += 1;
         Ok(())
     }
 }

@@ -31,6 +31,7 @@ pub fn random(random: &mut Random, kind: u8, n: usize) -> Case {
         n,
         modulus: if kind == SYMMETRIC { random.length(3, 255) } else { 0 },
         parents: if kind == TREE { parents(random, n) } else { Vec::new() },
+        starts: if kind == SYMMETRIC { starts(random, n) } else { Vec::new() },
         schedule: schedules::any(random, n, length),
     };
     let mut case = Case::new(start);
@@ -48,6 +49,12 @@ fn parents(random: &mut Random, n: usize) -> Vec<u8> {
     (0..n as u64).map(|task| random.below(task.max(1)) as u8).collect()
 }
 
+/// No table, or any start for each task.
+fn starts(random: &mut Random, n: usize) -> Vec<u8> {
+    let length = if random.once_in(4) { 0 } else { n };
+    (0..length).map(|_| random.below(n as u64) as u8).collect()
+}
+
 /// The case with one or two things changed, of which most are refused.
 pub fn damaged(random: &mut Random, case: &Case) -> Case {
     let mut case = case.clone();
@@ -60,13 +67,15 @@ pub fn damaged(random: &mut Random, case: &Case) -> Case {
 
 fn damage(random: &mut Random, case: &mut Case) {
     let Case { start, log, pairs, .. } = case;
-    match random.below(7) {
+    match random.below(9) {
         0 => start.kind = random.pick(&[0, 1, 2, 3, 4, 5, 255, 256, 259, 1 << 32, usize::MAX]),
         1 => start.n = random.pick(&[0, 1, 63, 64, 65, 255, 256, 257, 320, 1 << 32, usize::MAX]),
         2 => start.modulus = random.pick(&[0, 1, 2, 3, 255, 256, 259, 1 << 32, usize::MAX]),
         3 => start.parents.resize(random.length(0, 70), random.below(256) as u8),
         4 => damage_entry(random, &mut start.parents),
-        5 => damage_entry(random, &mut start.schedule),
+        5 => start.starts.resize(random.length(0, 70), random.below(64) as u8),
+        6 => damage_entry(random, &mut start.starts),
+        7 => damage_entry(random, &mut start.schedule),
         _ => {
             *log = random.length(0, *log);
             *pairs = random.length(0, *pairs);
@@ -81,7 +90,7 @@ fn damage_entry(random: &mut Random, bytes: &mut [u8]) {
     }
 }
 
-/// Schedules of the most turns and of one more; logs, lists and tasks at their limits on both sides.
+/// Schedules of the most turns and of one more; logs, lists, tasks and start tables at their limits on both sides.
 pub fn at_limits() -> Vec<Case> {
     let mut cases = Vec::new();
     for kind in 0..4 {
@@ -89,6 +98,7 @@ pub fn at_limits() -> Vec<Case> {
             let least = least(kind, n);
             cases.extend([MAX_TURNS, MAX_TURNS + 1].map(|turns| long(&least, turns)));
             cases.extend(around(&least));
+            cases.extend(started(&least));
         }
     }
     cases.push(last_is_no_task());
@@ -99,7 +109,7 @@ pub fn at_limits() -> Vec<Case> {
 fn least(kind: u8, n: usize) -> Start {
     let modulus = if kind == SYMMETRIC { 3 } else { 0 };
     let parents = vec![0; if kind == TREE { n } else { 0 }];
-    Start { kind: kind.into(), n, modulus, parents, schedule: Vec::new() }
+    Start { kind: kind.into(), n, modulus, parents, starts: Vec::new(), schedule: Vec::new() }
 }
 
 fn long(start: &Start, turns: usize) -> Case {
@@ -116,6 +126,16 @@ fn around(start: &Start) -> Vec<Case> {
     let last = Case { task: start.n - 1, ..rounds.clone() };
     let after = Case { task: start.n, ..rounds.clone() };
     vec![none, rounds, short_log, pairs, short_pairs, last, after]
+}
+
+/// Three rounds with start tables of each length around N, and of the entries around N − 1.
+fn started(start: &Start) -> Vec<Case> {
+    let last = start.n as u8 - 1;
+    let tables =
+        [(start.n - 1, 0), (start.n, 0), (start.n + 1, 0), (start.n, last), (start.n, last + 1)];
+    let cases =
+        tables.map(|(length, entry)| Start { starts: vec![entry; length], ..start.clone() });
+    cases.iter().map(|start| long(start, 3 * start.n)).collect()
 }
 
 /// 65,536 turns, of which the last is no task: all of them are looked at, and none is made.

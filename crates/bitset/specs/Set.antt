@@ -24,6 +24,14 @@ memberOf list k = eqb (bit list k) 1
 abbrev pub leastOf : ℕ → ℕ
 leastOf list = trailingZeros 64 list
 
+-- the tasks of the set at or above k
+abbrev pub fromOf : ℕ → ℕ → ℕ
+fromOf list k = list / 2 ^ k * 2 ^ k
+
+-- 02, P1: "the first listed task at or above the start, going round to 0 after the last"; 64 for the empty set
+unfoldable pub firstOf : ℕ → ℕ → ℕ
+firstOf list start = pick (eqb (fromOf list start) 0) (leastOf list) (leastOf (fromOf list start))
+
 -- the set with task k taken off
 abbrev pub withoutOf : ℕ → ℕ → ℕ
 withoutOf list k = put list k 0

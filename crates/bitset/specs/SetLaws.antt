@@ -1,19 +1,20 @@
 -- Laws of the sets of `Set.antt` and of the number of tasks: of single digits first, then those that the crates above cite.
 use mathlib.Core.Path.{_≡_, refl, sym, ap, _∙_, subst}
-use mathlib.Core.Logic.{_≢_}
+use mathlib.Core.Logic.{_≢_, _↔_}
 use mathlib.Core.Bool.{Bool, true, false, and-eq-true-iff}
 use Prim.Native.Nat.{ℕ, zero, suc, _+_, _-_, _*_, _/_, _%_, _^_, _≤_, _<_, min}
-use native.Mathlib.Nat.{pow-suc, le-refl, le-trans, le-of-eq}
+use native.Mathlib.Nat.{pow-suc, le-refl, le-trans, le-of-eq, lt-of-not-le, mul-comm, mul-assoc, div-one, div-div-eq-div-mul, div-mul-le-self}
 use native.Mathlib.Decide.{ℕ-discrete, decLt}
 use native.Mathlib.Omega.{arith}
-use lib.Dec.{ltb, leb, leb·suc-suc}
+use lib.Dec.{eqb, ltb, leb, leb·suc-suc}
 use lib.Bits.{bitAnd, and-step, and-le-l}
 use lib.Pow.{pow-pos, pow-mono}
-use lib.Count.{ones, trailingZeros, under, ones-step, ones-ones}
-use borrow.Author.Tests.{lt-ltb, le-ltb, ltb-true, le-leb, leb-true, eq-eqb, eqb-true}
+use lib.Count.{ones, trailingZeros, trailing-le, under, ones-step, ones-ones}
+use borrow.Author.Tests.{lt-ltb, le-ltb, ltb-true, le-leb, leb-true, eq-eqb, ne-eqb, eqb-true, eqb-false}
 use Rattle.bitset.specs.Choice.{pick}
+use Rattle.bitset.specs.ChoiceLaws.{by-test}
 use Rattle.bitset.specs.Tasks.{isCount}
-use Rattle.bitset.specs.Set.{bit, put, withinDigits, leastOf, withoutOf, withOf, allOf, sizeOf}
+use Rattle.bitset.specs.Set.{bit, put, withinDigits, leastOf, fromOf, firstOf, withoutOf, withOf, allOf, sizeOf}
 
 -- ---- the number of tasks
 
@@ -116,6 +117,93 @@ least-lowest (suc w) n k l = go (n % 2) refl k l (λ j. least-lowest w (n / 2) j
 pub least-of-list : (list : ℕ) → 0 < list → list < 2 ^ 64
     → (bit list (leastOf list) ≡ 1) × (leastOf list < 64) × ((k : ℕ) → k < leastOf list → bit list k ≡ 0)
 least-of-list list pos h = let l = least-member 64 list pos h in (l .0, l .1, least-lowest 64 list)
+
+-- ---- the first task from a start on, going round
+
+-- the tasks at or above k, one place on
+pub from-suc : (list k : ℕ) → fromOf list (suc k) ≡ fromOf (list / 2) k * 2
+from-suc list k =
+    ap (λ (x : ℕ). list / x * x) (pow-suc 2 k ∙ mul-comm (2 ^ k) 2)
+    ∙ ap (λ (x : ℕ). x * (2 * 2 ^ k)) (sym (div-div-eq-div-mul list 2 (2 ^ k)))
+    ∙ ap (λ (x : ℕ). list / 2 / 2 ^ k * x) (mul-comm 2 (2 ^ k))
+    ∙ sym (mul-assoc (list / 2 / 2 ^ k) (2 ^ k) 2)
+
+-- the tasks at or above k are those of the set, and there is none below
+from-below : (list k j : ℕ) → j < k → bit (fromOf list k) j ≡ 0
+unfolding bit
+from-below list zero j h = absurd (omega arith)
+from-below list (suc k) zero h = rw (from-suc list k) (omega arith)
+from-below list (suc k) (suc j) h =
+    rw (from-suc list k) (ap (λ (x : ℕ). bit x j) (omega arith) ∙ from-below (list / 2) k j (omega arith))
+
+from-at : (list k j : ℕ) → k ≤ j → bit (fromOf list k) j ≡ bit list j
+unfolding bit
+from-at list zero j h = ap (λ (x : ℕ). bit x j) (omega (arith, div-one list))
+from-at list (suc k) zero h = absurd (omega arith)
+from-at list (suc k) (suc j) h =
+    rw (from-suc list k) (ap (λ (x : ℕ). bit x j) (omega arith) ∙ from-at (list / 2) k j (omega arith))
+
+-- the least of the tasks at or above the start, where there is one: a member, and no task between is
+least-from : (list start : ℕ) → list < 2 ^ 64 → fromOf list start ≢ 0
+    → (bit list (leastOf (fromOf list start)) ≡ 1) × (start ≤ leastOf (fromOf list start))
+    × ((j : ℕ) → start ≤ j → j < leastOf (fromOf list start) → bit list j ≡ 0)
+least-from list start h ne = (sym (from-at list start (leastOf above) from) ∙ least .0, from, λ j a l. sym (from-at list start j a) ∙ least .2 j l)
+  where
+    above : ℕ
+    above = fromOf list start
+
+    least : (bit above (leastOf above) ≡ 1) × (leastOf above < 64) × ((j : ℕ) → j < leastOf above → bit above j ≡ 0)
+    least = least-of-list above (omega arith) (omega (arith, div-mul-le-self list (2 ^ start)))
+
+    from : start ≤ leastOf above
+    from = omega (arith, lt-of-not-le {n = suc (leastOf above)} {m = start} (λ l. absurd (omega (arith, from-below list start (leastOf above) l, least .0))))
+
+-- where the set has a task at or above the start, the first is the least of those
+pub first-above : (list start k : ℕ) → list < 2 ^ 64 → start ≤ k → bit list k ≡ 1
+    → (start ≤ firstOf list start) × ((j : ℕ) → start ≤ j → j < firstOf list start → bit list j ≡ 0)
+unfolding firstOf
+first-above list start k h a e = let l = least-from list start h some in rw (ne-eqb (fromOf list start) 0 some) (l .1, l .2)
+  where
+    some : fromOf list start ≢ 0
+    some z = absurd (omega (arith, from-at list start k a, ap (λ (x : ℕ). bit x k) z, bit-zero k))
+
+-- where it has none there, the first is the least of all
+pub first-round : (list start : ℕ) → list < 2 ^ 64 → ((k : ℕ) → start ≤ k → bit list k ≡ 0) → firstOf list start ≡ leastOf list
+unfolding firstOf
+first-round list start h none = rw (eq-eqb (fromOf list start) 0 empty)
+  where
+    digit : (j : ℕ) → Dec (j < start) → bit (fromOf list start) j ≡ bit 0 j
+    digit j (yes l) = from-below list start j l ∙ sym (bit-zero j)
+    digit j (no l) = from-at list start j (omega arith) ∙ none j (omega arith) ∙ sym (bit-zero j)
+
+    empty : fromOf list start ≡ 0
+    empty = bit-ext 64 (fromOf list start) 0 (omega (arith, div-mul-le-self list (2 ^ start))) (omega arith) (λ j _. digit j (decLt j start))
+
+-- from 0 on it is the least, so that line 13 with the start 0 takes the task that 01 names
+pub first-from-0 : (list : ℕ) → firstOf list 0 ≡ leastOf list
+unfolding firstOf
+first-from-0 list = rw all (by-test (λ k. k ≡ leastOf list) (eqb list 0) (λ _. refl) (λ _. refl))
+  where
+    all : fromOf list 0 ≡ list
+    all = omega (arith, div-one list)
+
+-- it is a task of 0 to 63, or 64
+pub first-le : (list start : ℕ) → firstOf list start ≤ 64
+unfolding firstOf
+first-le list start = by-test (λ k. k ≤ 64) (eqb (fromOf list start) 0) (λ _. trailing-le 64 list) (λ _. trailing-le 64 (fromOf list start))
+
+-- whatever the start, the first is a member exactly if the set is not empty
+pub first-member : (list start : ℕ) → list < 2 ^ 64 → (bit list (firstOf list start) ≡ 1) ↔ (list ≢ 0)
+unfolding firstOf
+first-member list start h = (some, taken)
+  where
+    some : bit list (firstOf list start) ≡ 1 → list ≢ 0
+    some e z = absurd (omega (arith, ap (λ (x : ℕ). bit x (firstOf list start)) z, bit-zero (firstOf list start)))
+
+    taken : list ≢ 0 → bit list (firstOf list start) ≡ 1
+    taken ne =
+        by-test (λ k. bit list k ≡ 1) (eqb (fromOf list start) 0) (λ _. least-of-list list (omega arith) h .0)
+        (λ e. least-from list start h (eqb-false (fromOf list start) 0 e) .0)
 
 -- ---- taking a task off and putting one on
 
@@ -251,15 +339,9 @@ without-within w list other k e =
     fewer j (yes e) = rw e (le-trans (le-of-eq (without-same list k)) (omega arith))
     fewer j (no ne) = le-of-eq (without-other list k j ne)
 
--- the least task of a set that is within another is in that one
-pub least-within : (list other : ℕ) → withinDigits 64 list other ≡ true → list ≢ 0 → bit other (leastOf list) ≡ 1
-least-within list other e ne =
-    omega (
-      arith,
-      least-of-list list (omega arith) (within-lt 64 list other e) .0,
-      within-bit 64 list other (leastOf list) e,
-      bit-le other (leastOf list),
-    )
+-- a task of a set that is within another is in that one
+pub within-member : (w list other k : ℕ) → withinDigits w list other ≡ true → bit list k ≡ 1 → bit other k ≡ 1
+within-member w list other k e m = omega (arith, within-bit w list other k e, bit-le other k)
 
 -- a set within another is no larger
 pub within-size : (w list other : ℕ) → withinDigits w list other ≡ true → sizeOf list ≤ sizeOf other

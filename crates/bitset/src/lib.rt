@@ -2,7 +2,7 @@
 // changes nothing. What each answers is defined in specs/Set.antt; the laws are in specs/SetLaws.antt.
 ghost use mathlib.Core.Path.{_≡_};
 ghost use Rattle.bitset.specs.Tasks.{isCount};
-ghost use Rattle.bitset.specs.Set.{memberOf, leastOf, withoutOf, withOf, allOf, withinOf, sizeOf};
+ghost use Rattle.bitset.specs.Set.{memberOf, leastOf, fromOf, firstOf, withoutOf, withOf, allOf, withinOf, sizeOf};
 
 // Whether there can be n tasks: 1 to 64.
 pub fn is_count(n: usize) -> bool
@@ -26,6 +26,28 @@ pub fn least(list: u64) -> usize
     ensures { λ r. ⌜ r ≡ leastOf list ⌝ }
 {
     u64::trailing_zeros(list) as usize
+}
+
+// The tasks of the set at or above the one given.
+fn from(list: u64, task: usize) -> u64
+    ensures { λ r. ⌜ r ≡ fromOf list task ⌝ }
+{
+    if 64 <= task {
+        return 0;
+    }
+    list & (!0u64 << task)
+}
+
+// The first task of the set at or above the start, going round to 0 after the last; 64 for the empty set.
+pub fn first(list: u64, start: usize) -> usize
+    ensures { λ r. ⌜ r ≡ firstOf list start ⌝ }
+{
+    let above = from(list, start);
+    if above == 0 {
+        least(list)
+    } else {
+        least(above)
+    }
 }
 
 // The set with the task taken off.

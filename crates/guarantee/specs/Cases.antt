@@ -6,8 +6,8 @@ use lib.ListN.{replicate}
 use Rattle.machine.specs.declared.State.{State}
 use Rattle.machine.specs.declared.Setup.{Setup}
 use Rattle.machine.specs.Setters.{taskAt}
-use Rattle.machine.specs.Fresh.{inputsOf, freshOf, freshReason}
-use Rattle.machine.specs.Range.{taskOk, taskZero, tasksOk, allZero, stateOk, checkState}
+use Rattle.machine.specs.Fresh.{inputsOf, freshOf, freshReason, allBelow}
+use Rattle.machine.specs.Range.{taskOk, taskZero, tasksOk, stateOk, checkState}
 use Rattle.lines.specs.Symmetric.{symmetricLine}
 use Rattle.lines.specs.Increment.{incrementLine}
 use Rattle.lines.specs.Ring.{ringLine}
@@ -17,7 +17,7 @@ use Rattle.machine.specs.declared.Outcome.{Outcome}
 use Rattle.machine.specs.declared.Outcome.the-variants.{Made}
 use Rattle.machine.specs.Turn.{effectOf, stepOf, turnOf}
 use Rattle.bitset.specs.Table.{table}
-use Rattle.bitset.specs.Set.{put, withinDigits}
+use Rattle.bitset.specs.Set.{put, withinDigits, firstOf}
 use Rattle.parents.specs.Shapes.{shapeTable, shapeOf, tableAfter}
 use Rattle.schedule.specs.Stretch.{namesAll}
 use Rattle.schedule.specs.declared.answer.Passes.the-variants.{Count}
@@ -26,18 +26,18 @@ use Rattle.parents.specs.Parents.{entriesOk, checkOf, childrenBelow}
 use lib.Count.{trailingZeros}
 
 -- Every definition that the cases compute by: a proof that unfolds this one unfolds them.
-computing : ℕ
-unfolding freshOf freshReason turnOf stepOf effectOf checkState stateOk tasksOk taskOk taskZero allZero symmetricLine incrementLine ringLine treeGather treeMeet treeRelease table withinDigits put trailingZeros entriesOk checkOf childrenBelow namesAll passesFrom pairsFrom unknownAt passesAnswer pairsAfter shapeTable shapeOf tableAfter
+unfoldable pub computing : ℕ
+unfolding freshOf freshReason turnOf stepOf effectOf checkState stateOk tasksOk taskOk taskZero allBelow symmetricLine incrementLine ringLine treeGather treeMeet treeRelease table withinDigits put firstOf trailingZeros entriesOk checkOf childrenBelow namesAll passesFrom pairsFrom unknownAt passesAnswer pairsAfter shapeTable shapeOf tableAfter
 computing = 0
 
 abbrev pub setup : ℕ → ℕ → ℕ → Setup
 setup kind n modulus = record { kind = kind; n = n; modulus = modulus }
 
 abbrev pub fresh : ℕ → ℕ → ℕ → List ℕ → State
-fresh kind n modulus parents = freshOf (inputsOf (setup kind n modulus) parents) .state
+fresh kind n modulus parents = freshOf (inputsOf (setup kind n modulus) parents []) .state
 
 abbrev pub reason : ℕ → ℕ → ℕ → List ℕ → ℕ
-reason kind n modulus parents = freshOf (inputsOf (setup kind n modulus) parents) .reason
+reason kind n modulus parents = freshOf (inputsOf (setup kind n modulus) parents []) .reason
 
 -- the state after the turns
 abbrev pub after : State → List ℕ → State

@@ -2,19 +2,18 @@
 use mathlib.Core.Path.{_≡_, refl, sym, subst}
 use mathlib.Core.List.{List, [], _∷_}
 use mathlib.Core.Logic.{_≢_}
-use Prim.Native.Nat.{ℕ, zero, suc, _≤_, _<_}
+use Prim.Native.Nat.{ℕ, zero, suc, _≤_}
 use native.Mathlib.Omega.{arith}
 use Rattle.machine.specs.declared.State.{State}
 use Rattle.machine.specs.Fresh.{Inputs, freshReason, freshOf}
 use Rattle.machine.specs.FreshLaws.{accepted-inputs, fresh-accepted, fresh-valid}
 use Rattle.machine.specs.Range.{Valid}
-use Rattle.machine.specs.Turn.{stepOf, turnOf, reasonNumber}
-use Rattle.machine.specs.TurnLaws.{turn-step}
+use Rattle.machine.specs.Turn.{turnOf, reasonNumber}
 use Rattle.machine.specs.CountLaws.{seven-of-kind-1}
 use Rattle.barrier.specs.Barrier.{Holds}
 use Rattle.barrier.specs.Moves.{keeps-all}
 use Rattle.increment.specs.Safe.{never-7}
-use Rattle.guarantee.specs.Calls.{Call, turn, after, afterAll, counted, countedAll, Reached, fresh, called}
+use Rattle.guarantee.specs.Calls.{Call, after, afterAll, counted, countedAll, Reached, fresh, called}
 use Rattle.guarantee.specs.Turns.{afterTurns, Leads, leads-call, leads-all}
 use Rattle.guarantee.specs.Instance.{barrierOf}
 
@@ -51,10 +50,6 @@ known-after s cs r = known-led s (afterAll s cs) (countedAll s cs) (leads-all s 
 -- it is in range
 pub reached-valid : (s : State) → Reached s → Valid s
 reached-valid s r = known s r .inv .valid
-
--- a step of one of its tasks is reached too
-pub reached-step : (s : State) (p : ℕ) → Reached s → p < s .n → Reached (stepOf s p .state)
-reached-step s p r h = subst (λ t. Reached (t .state)) (turn-step s p (reached-valid s r) h) (called s r (turn p))
 
 -- 01, reason 7: "at a turn, the task is at 13 of kind 1 with arrivals already N, which no fresh state leads to"
 pub reached-7 : (s : State) (p : ℕ) → Reached s → reasonNumber (turnOf s p .outcome) ≢ 7

@@ -41,8 +41,7 @@ counts t e = pick (ltb (t .count) maxCount) e (refuses 11 t)
 abbrev pub work : Task → Effect
 work t = moves (withLine t 12) Nothing
 
--- 13 of symmetric and tree: "if the list is empty, to" the line `exit`; "else looked-at := the least task on the list, to 14".
--- The task k is the one taken.
+-- 13 of symmetric and tree: "if the list is empty, to" the line `exit`; "else looked-at :=" the task k that is taken, "to 14".
 abbrev pub choose : ℕ → ℕ → Task → Effect
 choose exit k t = pick (eqb (t .list) 0) (moves (withLine t exit) Nothing) (moves (withLine (withLooked t k) 14) Nothing)
 

@@ -108,3 +108,31 @@ does s table p t seen =
     counted : {e : Effect} → (t .count < maxCount → D e) → D (counts t e)
     counted h =
         by-test D (ltb (t .count) maxCount) (λ l. h (ltb-true (t .count) maxCount l)) (λ l. refused-11 (ltb-false (t .count) maxCount l))
+
+-- 02, P1: whatever its line does, a task keeps its start
+pub record KeepsStart (t : Task) (e : Effect) : Type 0 where
+  pub start : e .task .start ≡ t .start
+
+pub start-kept : (s : Shared) (table : List ℕ) (p : ℕ) (t seen : Task) → KeepsStart t (effectFrom s table p t seen)
+start-kept s table p t seen =
+    by-kind K s table p t seen
+    (λ _. by-symmetric K (t .line) t (λ _. same refl) (λ _. same refl) (s .n) (s .modulus) (seen .tag)
+    (λ _. either (ltb (t .count) maxCount) (same refl) (same refl)) (λ _. either (eqb (t .list) 0) (same refl) (same refl)) (λ _. either (not (eqb (seen .tag) (t .old))) (same refl) (same refl)))
+    (λ _. by-increment K (t .line) t (λ _. same refl) (λ _. same refl) (s .n) (s .arrivals) (s .sense)
+    (λ _. same refl) (λ _. by-test K (leb (s .n) (s .arrivals)) (λ _. same refl) (λ _. either (ltb (t .count) maxCount) (same refl) (same refl))) (λ _. same refl) (λ _. same refl)
+    (λ _. either (eqb (s .sense) (t .aim)) (same refl) (same refl)))
+    (λ _. by-ring K (t .line) t (λ _. same refl) (λ _. same refl) (s .n) p
+    (λ _. either (eqb (t .toggle) (nz p)) (same refl) (same refl)) (λ _. either (ltb (t .count) maxCount) (same refl) (same refl)) (λ _. either (not (eqb (t .toggle) (nz p))) (same refl) (same refl)) (λ _. same refl))
+    (λ _. by-tree K (t .line) t (λ _. same refl) (λ _. same refl) table p (seen .flag)
+    (λ _. same refl) (λ _. either (eqb (t .list) 0) (same refl) (same refl)) (λ _. either (eqb (seen .flag) 1) (same refl) (same refl)) (λ _. either (ltb (t .count) maxCount) (same refl) (same refl))
+    (λ _. either (eqb p 0 || eqb (t .flag) 0) (same refl) (same refl)) (λ _. same refl) (λ _. either (eqb (t .list) 0) (same refl) (same refl)))
+    (same refl)
+  where
+    K : Effect → Type 0
+    K e = KeepsStart t e
+
+    same : {e : Effect} → e .task .start ≡ t .start → K e
+    same h = record { start = h }
+
+    either : (b : Bool) {x y : Effect} → K x → K y → K (pick b x y)
+    either b h g = by-test K b (λ _. h) (λ _. g)

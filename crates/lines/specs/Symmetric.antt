@@ -3,7 +3,7 @@ use mathlib.Core.Bool.{not}
 use Prim.Native.Nat.{ℕ, _+_, _%_}
 use lib.Dec.{eqb}
 use Rattle.bitset.specs.Choice.{pick}
-use Rattle.bitset.specs.Set.{allOf, leastOf}
+use Rattle.bitset.specs.Set.{allOf, firstOf}
 use Rattle.lines.specs.declared.Task.{Task}
 use Rattle.lines.specs.declared.Effect.{Effect}
 use Rattle.lines.specs.declared.Write.the-variants.{Nothing}
@@ -19,9 +19,10 @@ abbrev pub symmetric12 : ℕ → ℕ → Task → Effect
 symmetric12 n r t =
     counts t (moves (withLine (withList (raised (withTag (withOld t (t .tag)) (nextTag r (t .tag)))) (allOf n)) 13) Nothing)
 
--- 13: "if the list is empty, to 11; else looked-at := the least task on the list, to 14."
+-- 13: "if the list is empty, to 11; else looked-at := the least task on the list, to 14", where 02 (P1) takes "the first listed task at or
+-- above the start, going round to 0 after the last". It begins at the start at every turn of 13, not after the task looked at last.
 abbrev pub symmetric13 : Task → Effect
-symmetric13 t = choose 11 (leastOf (t .list)) t
+symmetric13 t = choose 11 (firstOf (t .list) (t .start)) t
 
 -- 14: "await tag of looked-at ≠ own old; take looked-at off the list; to 13."
 abbrev pub symmetric14 : ℕ → Task → Effect

@@ -6,7 +6,7 @@ use crate::Task;
 use crate::Write;
 ghost use mathlib.Core.Path.{_≡_};
 ghost use Prim.Native.Nat.{_+_};
-ghost use Rattle.bitset.specs.Set.{leastOf};
+ghost use Rattle.bitset.specs.Set.{leastOf, firstOf};
 ghost use Rattle.lines.specs.Setters.{withLine, withCount};
 ghost use Rattle.lines.specs.declared.Write.the-variants.{Nothing};
 ghost use Rattle.lines.specs.Common as defs;
@@ -83,6 +83,13 @@ pub(crate) fn least(list: u64) -> u8
     ensures { λ r. ⌜ r ≡ leastOf list ⌝ }
 {
     bitset::least(list) as u8
+}
+
+// The first task of a list at or above the start, going round, as a byte; 64 for the empty list.
+pub(crate) fn first(list: u64, start: u8) -> u8
+    ensures { λ r. ⌜ r ≡ firstOf list start ⌝ }
+{
+    bitset::first(list, start as usize) as u8
 }
 
 // 13 of symmetric and tree: to the line `exit` where the list is empty, else the task `taken` is looked at next.

@@ -13,11 +13,12 @@ mod words;
 pub const MAX_COUNT: u32 = 1_000_000;
 
 // A task of the barrier. Which fields a kind uses is said with their ranges, in machine's specs/Range.antt; the others are 0. The order of the
-// fields leaves gaps of 1 and 4 bytes, so that the compiler keeps a task in registers: a gap of 5 would put it through memory.
+// fields leaves one gap of 4 bytes, so that the compiler keeps a task in registers: a gap of 5 would put it through memory.
 pub struct Task {
     pub aim: u8,
     pub toggle: u8,
     pub flag: u8,
+    pub start: u8,
     pub count: u32,
     pub list: u64,
     pub line: u8,

@@ -28,11 +28,11 @@ fn line12(n: u8, modulus: u8, task: Task) -> Effect
     common::counts(task, next, Write::Nothing)
 }
 
-// 13: the least task of the list is looked at next; back to work when nobody is left.
+// 13: the first task of the list from the own start on is looked at next; back to work when nobody is left.
 fn line13(task: Task) -> Effect
     ensures { λ r. ⌜ r ≡ defs.symmetric13 task ⌝ }
 {
-    common::choose(11, common::least(task.list), task)
+    common::choose(11, common::first(task.list, task.start), task)
 }
 
 // 14: awaits that the looked-at task's tag is another than the own old one.

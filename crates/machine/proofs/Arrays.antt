@@ -1,4 +1,4 @@
--- Arrays: that those of a state have 64 elements, and how a loop fills one from the front.
+-- Arrays: that a state's parents have 64 entries, and how a loop fills an array from the front.
 use mathlib.Core.Path.{_≡_, sym, ap, _∙_}
 use mathlib.Core.List.{List, [], _∷_, _++_}
 use Prim.Native.Nat.{ℕ, suc, _+_, _-_, _≤_, _<_, min}
@@ -11,10 +11,7 @@ use denote.Laws.{Is}
 use Rattle.machine.specs.declared.State.{State}
 use Rattle.machine.proofs.State.{the-row}
 
--- what owning a state tells of its arrays' lengths
-pub tasks-64 : (s : State) (vs : List Val) → Is the-row s vs → length (s .tasks) ≡ 64
-tasks-64 s vs good = sym (length-map (s .tasks) _) ∙ good .1 .1 .1 .1 .1 .1 .1 .1 .0 .1 .0 .1
-
+-- what owning a state tells of its parents' length
 pub parents-64 : (s : State) (vs : List Val) → Is the-row s vs → length (s .parents) ≡ 64
 parents-64 s vs good = sym (length-map (s .parents) _) ∙ good .1 .1 .1 .1 .1 .1 .1 .0 .1 .0 .1
 

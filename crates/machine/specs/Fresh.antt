@@ -1,32 +1,33 @@
--- The fresh state, and the reasons that refuse one (01, "The state and a turn" and reasons 2 to 6).
-use mathlib.Core.Bool.{Bool, _&&_}
-use mathlib.Core.List.{List, _++_}
+-- The fresh state, and the reasons that refuse one (01, "The state and a turn" and reasons 2 to 6; 02, P1 and reason 12).
+use mathlib.Core.Bool.{Bool, true, _&&_, _||_}
+use mathlib.Core.List.{List, [], _∷_, _++_}
 use Prim.Native.Nat.{ℕ, _-_}
-use lib.Dec.{eqb, leb}
-use lib.ListN.{length, replicate}
+use lib.Dec.{eqb, leb, ltb}
+use lib.ListN.{length, getD, replicate}
 use Rattle.bitset.specs.Choice.{pick}
 use Rattle.bitset.specs.Table.{table}
 use Rattle.bitset.specs.Tasks.{isCount}
 use Rattle.parents.specs.Parents.{checkOf}
 use Rattle.lines.specs.declared.Task.{Task}
-use Rattle.lines.specs.Setters.{zeroTask, withLine}
+use Rattle.lines.specs.Setters.{zeroTask, withLine, withStart}
 use Rattle.machine.specs.declared.State.{State}
 use Rattle.machine.specs.declared.Setup.{Setup}
 use Rattle.machine.specs.declared.Fresh.{Fresh}
 
--- what a fresh state is made from: kind, N, R and the parent table
+-- what a fresh state is made from: kind, N, R, and the tables of parents and of starts
 pub record Inputs : Type 0 where
   pub kind : ℕ
   pub n : ℕ
   pub modulus : ℕ
   pub parents : List ℕ
+  pub starts : List ℕ
 
-abbrev pub inputsOf : Setup → List ℕ → Inputs
-inputsOf setup parents = record { kind = setup .kind; n = setup .n; modulus = setup .modulus; parents = parents }
+abbrev pub inputsOf : Setup → List ℕ → List ℕ → Inputs
+inputsOf setup parents starts = record { kind = setup .kind; n = setup .n; modulus = setup .modulus; parents = parents; starts = starts }
 
 -- the same with another parent table
 abbrev pub withParents : Inputs → List ℕ → Inputs
-withParents i parents = record { kind = i .kind; n = i .n; modulus = i .modulus; parents = parents }
+withParents i parents = record { kind = i .kind; n = i .n; modulus = i .modulus; parents = parents; starts = i .starts }
 
 -- "0 symmetric, 1 fetch-and-increment, 2 ring, 3 tree"
 abbrev pub isKind : ℕ → Bool
@@ -37,23 +38,43 @@ abbrev pub modulusOk : ℕ → ℕ → Bool
 modulusOk kind r = pick (eqb kind 0) (leb 3 r && leb r 255) (eqb r 0)
 
 -- 5: "The parent table's length isn't N for a tree, or isn't 0 for another kind."; 6 for a tree, by the table's check
-abbrev pub tableReason : ℕ → ℕ → List ℕ → ℕ
-tableReason kind n parents = pick (eqb kind 3) (checkOf parents n) (pick (eqb (length parents) 0) 0 5)
+abbrev pub parentsReason : ℕ → ℕ → List ℕ → ℕ
+parentsReason kind n parents = pick (eqb kind 3) (checkOf parents n) (pick (eqb (length parents) 0) 0 5)
 
--- "A fresh state checks 2 to 6": the first reason that applies, 0 if none does
+-- whether every entry of a table is below the bound
+unfoldable pub allBelow : ℕ → List ℕ → Bool
+allBelow bound [] = true
+allBelow bound (x ∷ xs) = ltb x bound && allBelow bound xs
+
+-- 02, P1: "12 is a start table whose length is neither 0 nor N, or is not 0 for another kind, or an entry of N or more"
+abbrev pub startsOk : ℕ → ℕ → List ℕ → Bool
+startsOk kind n starts = eqb (length starts) 0 || (eqb kind 0 && eqb (length starts) n && allBelow n starts)
+
+abbrev pub startsReason : ℕ → ℕ → List ℕ → ℕ
+startsReason kind n starts = pick (startsOk kind n starts) 0 12
+
+-- the first of two reasons that applies; a reason that doesn't is 0
+abbrev pub firstReason : ℕ → ℕ → ℕ
+firstReason a b = pick (eqb a 0) b a
+
+-- "A fresh state checks 2 to 6", and 12 "follows 6": the first reason that applies, 0 if none does
 unfoldable pub freshReason : Inputs → ℕ
 freshReason i =
     pick (isKind (i .kind))
     (pick (isCount (i .n))
     (pick (modulusOk (i .kind) (i .modulus))
-    (tableReason (i .kind) (i .n) (i .parents))
+    (firstReason (parentsReason (i .kind) (i .n) (i .parents)) (startsReason (i .kind) (i .n) (i .starts)))
     4)
     3)
     2
 
+-- 02, P1: "a start table of one byte a task"; "with no table the start is 0"
+abbrev pub startOf : List ℕ → ℕ → ℕ
+startOf starts q = getD starts q 0
+
 -- "Each task has a line and a count, fresh 11 and 0"; "fields not named above start at 0". The task q:
 abbrev pub freshTask : Inputs → ℕ → Task
-freshTask i q = withLine zeroTask 11
+freshTask i q = withStart (withLine zeroTask 11) (startOf (i .starts) q)
 
 -- "Sense (fresh 1)" for kind 1, and 0 for another kind, which doesn't use it
 abbrev pub freshSense : ℕ → ℕ

@@ -1,14 +1,13 @@
 -- Laws of the fresh state: when it is refused, and that an accepted one is in range.
 use mathlib.Core.Path.{_≡_, refl, sym, ap, _∙_, subst}
-use mathlib.Core.Bool.{Bool, true, false, _&&_, _||_}
+use mathlib.Core.Bool.{Bool, true, false, _&&_, _||_, and-eq-true-iff}
 use mathlib.Core.List.{List, [], _∷_}
-use mathlib.Core.Logic.{_≢_}
 use Prim.Native.Nat.{ℕ, zero, suc, _+_, _-_, _≤_, _<_}
 use native.Mathlib.Omega.{arith}
-use lib.Dec.{eqb}
+use lib.Dec.{eqb, ltb}
 use lib.ListN.{length, getD, drop, replicate, getD-replicate, List·getD-append}
 use lib.Seq.{getD-append-add, take-at, drop-at}
-use borrow.Author.Tests.{eq-eqb, ne-eqb, lt-ltb, le-leb, leb-true, eqb-true}
+use borrow.Author.Tests.{eq-eqb, ne-eqb, lt-ltb, ltb-true, le-leb, leb-true, eqb-true, eqb-false}
 use Rattle.bitset.specs.Choice.{pick}
 use Rattle.bitset.specs.Table.{table}
 use Rattle.bitset.specs.TableLaws.{length-table, table-at}
@@ -18,11 +17,10 @@ use Rattle.parents.specs.Parents.{checkOf}
 use Rattle.parents.specs.ParentsLaws.{accepted}
 use Rattle.lines.specs.declared.Task.{Task}
 use Rattle.lines.specs.Setters.{zeroTask}
-use Rattle.machine.specs.declared.State.{State}
-use Rattle.machine.specs.Fresh.{Inputs, withParents, isKind, modulusOk, tableReason, freshReason, freshTask, freshTasks, padded, freshState, zeroState, freshOf}
+use Rattle.machine.specs.Fresh.{Inputs, withParents, isKind, modulusOk, parentsReason, allBelow, startsReason, firstReason, freshReason, startOf, freshTask, freshTasks, padded, freshState, freshOf}
 use Rattle.machine.specs.Range.{tableOf, fieldOk, listRoom, allZero, parentsOk, taskZero, Valid}
 use Rattle.bitset.specs.ChoiceLaws.{by-test}
-use Rattle.machine.specs.RangeLaws.{TaskRange, valid, line-14, modulus-3}
+use Rattle.machine.specs.RangeLaws.{TaskRange, valid, line-14, used, modulus-3}
 
 -- what an accepted fresh state is made from
 pub record Accepted (i : Inputs) : Type 0 where
@@ -30,18 +28,27 @@ pub record Accepted (i : Inputs) : Type 0 where
   pub some : 1 ≤ i .n
   pub few : i .n ≤ 64
   pub modulus : modulusOk (i .kind) (i .modulus) ≡ true
-  pub table : tableReason (i .kind) (i .n) (i .parents) ≡ 0
+  pub parents : parentsReason (i .kind) (i .n) (i .parents) ≡ 0
+  pub starts : startsReason (i .kind) (i .n) (i .starts) ≡ 0
+
+-- neither of two reasons applies if the first of them doesn't
+no-reason : (a b : ℕ) → firstReason a b ≡ 0 → (a ≡ 0) × (b ≡ 0)
+no-reason a b = by-test (λ x. x ≡ 0 → (a ≡ 0) × (b ≡ 0)) (eqb a 0) (λ e z. (eqb-true a 0 e, z)) (λ e z. absurd (omega (arith, eqb-false a 0 e)))
 
 -- a fresh state is accepted exactly if none of the reasons applies
 pub accepted-inputs : (i : Inputs) → freshReason i ≡ 0 → Accepted i
 unfolding freshReason
 accepted-inputs i e = go (isKind (i .kind)) (isCount (i .n)) (modulusOk (i .kind) (i .modulus)) refl refl refl e
   where
+    tables : ℕ
+    tables = firstReason (parentsReason (i .kind) (i .n) (i .parents)) (startsReason (i .kind) (i .n) (i .starts))
+
     go : (a b c : Bool) → isKind (i .kind) ≡ a → isCount (i .n) ≡ b → modulusOk (i .kind) (i .modulus) ≡ c
-        → pick a (pick b (pick c (tableReason (i .kind) (i .n) (i .parents)) 4) 3) 2 ≡ 0 → Accepted i
+        → pick a (pick b (pick c tables 4) 3) 2 ≡ 0 → Accepted i
     go true true true ea eb ec e =
         let n = is-count (i .n) eb in
-        record { kind = leb-true (i .kind) 3 ea; some = n .0; few = n .1; modulus = ec; table = e }
+        let none = no-reason (parentsReason (i .kind) (i .n) (i .parents)) (startsReason (i .kind) (i .n) (i .starts)) e in
+        record { kind = leb-true (i .kind) 3 ea; some = n .0; few = n .1; modulus = ec; parents = none .0; starts = none .1 }
     go true true false ea eb ec e = absurd (omega arith)
     go true false c ea eb ec e = absurd (omega arith)
     go false b c ea eb ec e = absurd (omega arith)
@@ -49,18 +56,20 @@ accepted-inputs i e = go (isKind (i .kind)) (isCount (i .n)) (modulusOk (i .kind
 pub inputs-accepted : (i : Inputs) → Accepted i → freshReason i ≡ 0
 unfolding freshReason
 inputs-accepted i a =
-    rw (le-leb (i .kind) 3 (a .kind), le-leb 1 (i .n) (a .some), le-leb (i .n) 64 (a .few), a .modulus) (a .table)
+    rw (le-leb (i .kind) 3 (a .kind), le-leb 1 (i .n) (a .some), le-leb (i .n) 64 (a .few), a .modulus, a .parents) (a .starts)
 
--- the table is looked at only where N is 1 to 64, and by its own reason alone
-pub reason-alike : (i : Inputs) (parents : List ℕ) → (i .n ≤ 64 → tableReason (i .kind) (i .n) parents ≡ tableReason (i .kind) (i .n) (i .parents))
+-- the parents are looked at only where N is 1 to 64, and by their own reason alone
+pub reason-alike : (i : Inputs) (parents : List ℕ) → (i .n ≤ 64 → parentsReason (i .kind) (i .n) parents ≡ parentsReason (i .kind) (i .n) (i .parents))
     → freshReason (withParents i parents) ≡ freshReason i
 unfolding freshReason
 reason-alike i parents same = go (isCount (i .n)) refl
   where
+    reason : Bool → ℕ → ℕ
+    reason b k = pick (isKind (i .kind)) (pick b (pick (modulusOk (i .kind) (i .modulus)) (firstReason k (startsReason (i .kind) (i .n) (i .starts))) 4) 3) 2
+
     go : (b : Bool) → isCount (i .n) ≡ b
-        → pick (isKind (i .kind)) (pick b (pick (modulusOk (i .kind) (i .modulus)) (tableReason (i .kind) (i .n) parents) 4) 3) 2
-        ≡ pick (isKind (i .kind)) (pick b (pick (modulusOk (i .kind) (i .modulus)) (tableReason (i .kind) (i .n) (i .parents)) 4) 3) 2
-    go true e = rw (same (is-count (i .n) e .1))
+        → reason b (parentsReason (i .kind) (i .n) parents) ≡ reason b (parentsReason (i .kind) (i .n) (i .parents))
+    go true e = ap (reason true) (same (is-count (i .n) e .1))
     go false e = refl
 
 -- ---- an accepted one is in range
@@ -77,31 +86,50 @@ zero-at n q f h l =
     ∙ getD-replicate (64 - n) (q - n) zeroTask zeroTask (omega arith)
 
 all-zeros : (n : ℕ) → allZero (replicate n 0) ≡ true
-unfolding allZero
+unfolding allBelow
 all-zeros zero = refl
 all-zeros (suc n) = all-zeros n
+
+below-at : (bound : ℕ) (xs : List ℕ) (q : ℕ) → 0 < bound → allBelow bound xs ≡ true → getD xs q 0 < bound
+unfolding allBelow
+below-at bound [] q pos e = pos
+below-at bound (x ∷ xs) zero pos e = ltb-true x bound (and-eq-true-iff (ltb x bound) (allBelow bound xs) .0 e .0)
+below-at bound (x ∷ xs) (suc q) pos e = below-at bound xs q pos (and-eq-true-iff (ltb x bound) (allBelow bound xs) .0 e .1)
 
 -- a field that is 0 is in range
 field-zero : (u : Bool) (bound : ℕ) → (u ≡ true → 0 < bound) → fieldOk u bound 0 ≡ true
 field-zero u bound f = by-test (λ b. b ≡ true) u (λ e. lt-ltb 0 bound (f e)) (λ e. refl)
 
-fresh-range : (i : Inputs) (s : State) (q : ℕ) → s .kind ≤ 3 → 1 ≤ s .n → modulusOk (s .kind) (s .modulus) ≡ true → TaskRange s q (freshTask i q)
-fresh-range i s q known some m =
+-- the starts of an accepted table are in range
+start-ok : (kind n : ℕ) (starts : List ℕ) (q : ℕ) → 1 ≤ n → startsReason kind n starts ≡ 0 → fieldOk (eqb kind 0) n (startOf starts q) ≡ true
+start-ok kind n [] q some e = field-zero (eqb kind 0) n (λ _. some)
+start-ok kind n (x ∷ xs) q some e =
+    by-test (λ r. r ≡ 0 → fieldOk (eqb kind 0) n (startOf (x ∷ xs) q) ≡ true) (eqb kind 0 && eqb (length (x ∷ xs)) n && allBelow n (x ∷ xs))
+    (λ ok _.
+    let all = and-eq-true-iff _ _ .0 ok in
+    let whole = and-eq-true-iff _ _ .0 (all .0) in
+    used (eqb kind 0) n (startOf (x ∷ xs) q) (whole .0) (below-at n (x ∷ xs) q some (all .1)))
+    (λ _ z. absurd (omega arith))
+    (rw (ne-eqb (length (x ∷ xs)) 0 (λ z. absurd (omega arith))) at e)
+
+fresh-range : (i : Inputs) (q : ℕ) → Accepted i → TaskRange (freshState i) q (freshTask i q)
+fresh-range i q a =
     record {
       line-from = omega arith;
-      line-to = omega (arith, line-14 (s .kind) known);
+      line-to = omega (arith, line-14 (i .kind) (a .kind));
       count = omega arith;
-      tag = field-zero (eqb (s .kind) 0) (s .modulus) tagged;
-      old = field-zero (eqb (s .kind) 0) (s .modulus) tagged;
-      looked = field-zero (eqb (s .kind) 0 || eqb (s .kind) 3) (s .n) (λ _. some);
-      list = within-bits 64 0 (listRoom s q) (omega arith) (λ k. omega (arith, bit-zero k));
-      aim = field-zero (eqb (s .kind) 1) 2 (λ _. omega arith);
-      toggle = field-zero (eqb (s .kind) 2) 2 (λ _. omega arith);
-      flag = field-zero (eqb (s .kind) 3) 2 (λ _. omega arith);
+      tag = field-zero (eqb (i .kind) 0) (i .modulus) tagged;
+      old = field-zero (eqb (i .kind) 0) (i .modulus) tagged;
+      looked = field-zero (eqb (i .kind) 0 || eqb (i .kind) 3) (i .n) (λ _. a .some);
+      list = within-bits 64 0 (listRoom (freshState i) q) (omega arith) (λ k. omega (arith, bit-zero k));
+      aim = field-zero (eqb (i .kind) 1) 2 (λ _. omega arith);
+      toggle = field-zero (eqb (i .kind) 2) 2 (λ _. omega arith);
+      flag = field-zero (eqb (i .kind) 3) 2 (λ _. omega arith);
+      start = start-ok (i .kind) (i .n) (i .starts) q (a .some) (a .starts);
     }
   where
-    tagged : eqb (s .kind) 0 ≡ true → 0 < s .modulus
-    tagged e = omega (arith, modulus-3 (s .modulus) (rw (eqb-true (s .kind) 0 e) at m))
+    tagged : eqb (i .kind) 0 ≡ true → 0 < i .modulus
+    tagged e = omega (arith, modulus-3 (i .modulus) (rw (eqb-true (i .kind) 0 e) at (a .modulus)))
 
 -- the parents of an accepted fresh state are its table, with 0 after it
 fresh-parents : (i : Inputs) → Accepted i → parentsOk (freshState i) ≡ true
@@ -112,11 +140,11 @@ fresh-parents i a =
     zeros k = replicate k 0
 
     reason : ℕ
-    reason = tableReason (i .kind) (i .n) (i .parents)
+    reason = parentsReason (i .kind) (i .n) (i .parents)
 
     tree : eqb (i .kind) 3 ≡ true → eqb (checkOf (tableOf (freshState i)) (i .n)) 0 && allZero (drop (i .n) (padded (i .parents))) ≡ true
     tree k =
-        let table : checkOf (i .parents) (i .n) ≡ 0 = rw k at (a .table) in
+        let table : checkOf (i .parents) (i .n) ≡ 0 = rw k at (a .parents) in
         let long = accepted (i .parents) (i .n) table .long in
         rw (
           take-at (i .parents) (zeros (64 - length (i .parents))) (i .n) long,
@@ -126,7 +154,7 @@ fresh-parents i a =
         (all-zeros (64 - length (i .parents)))
 
     other : eqb (i .kind) 3 ≡ false → allZero (padded (i .parents)) ≡ true
-    other k = none (i .parents) (length-0 (rw k at (a .table)))
+    other k = none (i .parents) (length-0 (rw k at (a .parents)))
       where
         length-0 : _≡_ {A = ℕ} (pick (eqb (length (i .parents)) 0) 0 5) 0 → length (i .parents) ≡ 0
         length-0 = by-test (λ x. _≡_ {A = ℕ} x 0 → length (i .parents) ≡ 0) (eqb (length (i .parents)) 0) (λ e _. eqb-true (length (i .parents)) 0 e) (λ _ z. absurd (omega arith))
@@ -149,7 +177,7 @@ fresh-valid i e =
       arrivals = field-zero (eqb (i .kind) 1) (i .n + 1) (λ _. omega arith);
       sense = by-test (λ b. b ≡ true) (eqb (i .kind) 1) (λ k. rw k) (λ k. rw k);
       parents = fresh-parents i a;
-      tasks = λ q h. subst (TaskRange (freshState i) q) (sym (fresh-at (i .n) q (freshTask i) h)) (fresh-range i (freshState i) q (a .kind) (a .some) (a .modulus));
+      tasks = λ q h. subst (TaskRange (freshState i) q) (sym (fresh-at (i .n) q (freshTask i) h)) (fresh-range i q a);
       rest = λ q m l. rw (zero-at (i .n) q (freshTask i) m l);
     })
 
@@ -158,11 +186,7 @@ pub fresh-reason : (i : Inputs) → freshOf i .reason ≡ freshReason i
 unfolding freshOf
 fresh-reason i = refl
 
--- an accepted call gives the fresh state, a refused one the all-zero state
+-- an accepted call gives the fresh state
 pub fresh-accepted : (i : Inputs) → freshReason i ≡ 0 → freshOf i .state ≡ freshState i
 unfolding freshOf
 fresh-accepted i e = rw (eq-eqb (freshReason i) 0 e)
-
-pub fresh-refused : (i : Inputs) → freshReason i ≢ 0 → freshOf i .state ≡ zeroState
-unfolding freshOf
-fresh-refused i ne = rw (ne-eqb (freshReason i) 0 ne)

@@ -3,7 +3,7 @@ use mathlib.Core.Path.{_≡_, sym, _∙_, subst}
 use mathlib.Core.Bool.{Bool, true, _||_, not}
 use mathlib.Core.List.{List}
 use mathlib.Core.Logic.{_≢_}
-use Prim.Native.Nat.{ℕ, _+_, _≤_, _<_}
+use Prim.Native.Nat.{ℕ, _+_, _^_, _≤_, _<_}
 use native.Mathlib.Nat.{lt-of-not-le, mod-lt}
 use native.Mathlib.Decide.{ℕ-discrete}
 use native.Mathlib.Omega.{arith}
@@ -12,8 +12,8 @@ use lib.ListN.{length, length-take}
 use borrow.Author.Tests.{ne-eqb, le-ltb, ltb-true, leb-false, eqb-true, eqb-false}
 use Rattle.bitset.specs.Choice.{pick}
 use Rattle.bitset.specs.ChoiceLaws.{by-test}
-use Rattle.bitset.specs.Set.{bit, withinOf, allOf, leastOf, withoutOf}
-use Rattle.bitset.specs.SetLaws.{bit-zero, all-past, all-lt, within-self, without-within, least-within}
+use Rattle.bitset.specs.Set.{bit, withinOf, allOf, leastOf, firstOf, withoutOf}
+use Rattle.bitset.specs.SetLaws.{bit-zero, all-past, all-lt, least-of-list, first-member, within-lt, within-member, within-self, without-within}
 use Rattle.parents.specs.Parents.{childrenOf}
 use Rattle.parents.specs.ParentsLaws.{children-bit, children-lt}
 use Rattle.lines.specs.declared.Task.{Task}
@@ -138,9 +138,16 @@ module _ (s : State) (p : ℕ) (r : InRange s) (h : p < s .n) where
   tr : TaskRange s p (taskAt s p)
   tr = r .tasks p h
 
-  -- the least task on a list is a task
-  least-known : taskAt s p .list ≢ 0 → leastOf (taskAt s p .list) < s .n
-  least-known ne = lt-of-not-le (λ l. absurd (omega (arith, room-past s p (leastOf (taskAt s p .list)) r l, least-within (taskAt s p .list) (listRoom s p) (tr .list) ne)))
+  list-lt : taskAt s p .list < 2 ^ 64
+  list-lt = within-lt 64 (taskAt s p .list) (listRoom s p) (tr .list)
+
+  -- the least task of a list is on it
+  least-listed : taskAt s p .list ≢ 0 → bit (taskAt s p .list) (leastOf (taskAt s p .list)) ≡ 1
+  least-listed ne = least-of-list (taskAt s p .list) (omega arith) list-lt .0
+
+  -- a task on a list is a task
+  listed-known : (k : ℕ) → bit (taskAt s p .list) k ≡ 1 → k < s .n
+  listed-known k e = lt-of-not-le (λ l. absurd (omega (arith, room-past s p k r l, within-member 64 (taskAt s p .list) (listRoom s p) k (tr .list) e)))
 
   -- the line alone
   to-line : (l : ℕ) → 11 ≤ l → l ≤ lastLine (s .kind) → TaskRange s p (withLine (taskAt s p) l)
@@ -149,13 +156,13 @@ module _ (s : State) (p : ℕ) (r : InRange s) (h : p < s .n) where
   good-work : GoodEffect s p (work (taskAt s p))
   good-work = (to-line 12 (omega arith) (omega (arith, line-14 (s .kind) (r .kind))), tt)
 
-  good-choose : (exit : ℕ) → 11 ≤ exit → exit ≤ lastLine (s .kind) → eqb (s .kind) 0 || eqb (s .kind) 3 ≡ true
-      → GoodEffect s p (choose exit (leastOf (taskAt s p .list)) (taskAt s p))
-  good-choose exit a b u =
+  good-choose : (exit k : ℕ) → 11 ≤ exit → exit ≤ lastLine (s .kind) → eqb (s .kind) 0 || eqb (s .kind) 3 ≡ true
+      → (taskAt s p .list ≢ 0 → bit (taskAt s p .list) k ≡ 1) → GoodEffect s p (choose exit k (taskAt s p))
+  good-choose exit k a b u listed =
       by-test (GoodEffect s p) (eqb (taskAt s p .list) 0) (λ e. (to-line exit a b, tt))
       (λ e.
       let l14 = line-14 (s .kind) (r .kind) in
-      let l = used (eqb (s .kind) 0 || eqb (s .kind) 3) (s .n) (leastOf (taskAt s p .list)) u (least-known (eqb-false (taskAt s p .list) 0 e)) in
+      let l = used (eqb (s .kind) 0 || eqb (s .kind) 3) (s .n) k u (listed-known k (listed (eqb-false (taskAt s p .list) 0 e))) in
       let o = tr in
       (search arith, tt))
 
@@ -177,7 +184,8 @@ module _ (s : State) (p : ℕ) (r : InRange s) (h : p < s .n) where
   good-symmetric k tag =
       by-symmetric (GoodEffect s p) (taskAt s p .line) (taskAt s p) (λ _. tt) (λ _. good-work) (s .n) (s .modulus) tag
       (λ _. good-counts _ line-12)
-      (λ _. good-choose 11 (omega arith) (omega (arith, line-14 (s .kind) (r .kind))) (rw k))
+      (λ _. good-choose 11 (firstOf (taskAt s p .list) (taskAt s p .start)) (omega arith) (omega (arith, line-14 (s .kind) (r .kind))) (rw k)
+      (first-member (taskAt s p .list) (taskAt s p .start) list-lt .1))
       (λ _. good-awaits (not (eqb tag (taskAt s p .old))) (takeOff (taskAt s p)) good-take-off)
     where
       line-12 : taskAt s p .count < maxCount → GoodEffect s p (moves (withLine (withList (raised (withTag (withOld (taskAt s p) (taskAt s p .tag)) (nextTag (s .modulus) (taskAt s p .tag)))) (allOf (s .n))) 13) Nothing)
@@ -230,13 +238,13 @@ module _ (s : State) (p : ℕ) (r : InRange s) (h : p < s .n) where
   good-tree k flag =
       by-tree (GoodEffect s p) (taskAt s p .line) (taskAt s p) (λ _. tt) (λ _. good-work) (tableOf s) p flag
       (λ _. (listed 13 (omega arith) (omega (arith, l18)), tt))
-      (λ _. good-choose 15 (omega arith) (omega (arith, l18)) (rw k))
+      (λ _. good-choose 15 (leastOf (taskAt s p .list)) (omega arith) (omega (arith, l18)) (rw k) least-listed)
       (λ _. good-awaits (eqb flag 1) (takeOff (taskAt s p)) good-take-off)
       (λ _. good-counts (moves (withLine (raised (withFlag (taskAt s p) (pick (eqb p 0) (taskAt s p .flag) 1))) 16) Nothing) (λ low. (let o = tr in let l = l18 in let f = flagged in search arith, tt)))
       (λ _. good-awaits (eqb p 0 || eqb (taskAt s p .flag) 0) (moves (withLine (taskAt s p) 17) Nothing) (to-line 17 (omega arith) (omega (arith, l18)), tt))
       (λ _. (listed 18 (omega arith) (omega (arith, l18)), tt))
       (λ _. by-test (GoodEffect s p) (eqb (taskAt s p .list) 0) (λ _. (to-line 11 (omega arith) (omega (arith, l18)), tt))
-      (λ e. (cleared, (least-known (eqb-false (taskAt s p .list) 0 e), used (eqb (s .kind) 3) 2 0 (rw k) (omega arith)))))
+      (λ e. (cleared, (listed-known (leastOf (taskAt s p .list)) (least-listed (eqb-false (taskAt s p .list) 0 e)), used (eqb (s .kind) 3) 2 0 (rw k) (omega arith)))))
     where
       l18 : lastLine (s .kind) ≡ 18
       l18 = rw k

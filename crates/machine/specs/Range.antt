@@ -1,7 +1,7 @@
 -- The range of a state (01, "Field ranges"), which reason 7 refuses to leave.
 use mathlib.Core.Path.{_≡_}
 use mathlib.Core.Bool.{Bool, true, _&&_, _||_}
-use mathlib.Core.List.{List, [], _∷_}
+use mathlib.Core.List.{List}
 use Prim.Native.Nat.{ℕ, zero, suc, _+_}
 use lib.Dec.{eqb, leb, ltb}
 use lib.ListN.{take, drop}
@@ -13,7 +13,7 @@ use Rattle.lines.specs.declared.Task.{Task}
 use Rattle.lines.specs.Common.{maxCount}
 use Rattle.machine.specs.declared.State.{State}
 use Rattle.machine.specs.Setters.{taskAt}
-use Rattle.machine.specs.Fresh.{isKind, modulusOk}
+use Rattle.machine.specs.Fresh.{isKind, modulusOk, allBelow}
 
 -- "A table of N bytes gives each task's parent": the first N entries
 abbrev pub tableOf : State → List ℕ
@@ -31,7 +31,8 @@ fieldOk used bound x = pick used (ltb x bound) (eqb x 0)
 abbrev pub listRoom : State → ℕ → ℕ
 listRoom s q = pick (eqb (s .kind) 0) (allOf (s .n)) (pick (eqb (s .kind) 3) (childrenOf (tableOf s) q) 0)
 
--- "Tag and old below R. Looked-at below N. .. aim, toggle and flag 0 or 1." The task t at q:
+-- "Tag and old below R. Looked-at below N. .. aim, toggle and flag 0 or 1." 02, P1: "a start is below N, and 0 for other kinds." The task
+-- t at q:
 unfoldable pub taskOk : State → ℕ → Task → Bool
 taskOk s q t =
     leb 11 (t .line) && leb (t .line) (lastLine (s .kind))
@@ -43,21 +44,22 @@ taskOk s q t =
     && fieldOk (eqb (s .kind) 1) 2 (t .aim)
     && fieldOk (eqb (s .kind) 2) 2 (t .toggle)
     && fieldOk (eqb (s .kind) 3) 2 (t .flag)
+    && fieldOk (eqb (s .kind) 0) (s .n) (t .start)
 
 -- "every field of a task from N on, is 0"
 unfoldable pub taskZero : Task → Bool
 taskZero t =
     eqb (t .line) 0 && eqb (t .count) 0 && eqb (t .tag) 0 && eqb (t .old) 0 && eqb (t .list) 0 && eqb (t .looked) 0
-    && eqb (t .aim) 0 && eqb (t .toggle) 0 && eqb (t .flag) 0
+    && eqb (t .aim) 0 && eqb (t .toggle) 0 && eqb (t .flag) 0 && eqb (t .start) 0
 
 -- the tasks below m: those of 0 to N − 1 are in range, the others all zero
 unfoldable pub tasksOk : State → ℕ → Bool
 tasksOk s zero = true
 tasksOk s (suc q) = tasksOk s q && pick (ltb q (s .n)) (taskOk s q (taskAt s q)) (taskZero (taskAt s q))
 
-unfoldable pub allZero : List ℕ → Bool
-allZero [] = true
-allZero (x ∷ xs) = eqb x 0 && allZero xs
+-- only 0 is below 1
+abbrev pub allZero : List ℕ → Bool
+allZero xs = allBelow 1 xs
 
 -- "R and parents as above": for a tree the first N entries are a table that its check accepts, and all others are 0
 abbrev pub parentsOk : State → Bool

@@ -34,6 +34,7 @@ pub record TaskRange (s : State) (q : ℕ) (t : Task) : Type 0 where
   pub aim : fieldOk (eqb (s .kind) 1) 2 (t .aim) ≡ true
   pub toggle : fieldOk (eqb (s .kind) 2) 2 (t .toggle) ≡ true
   pub flag : fieldOk (eqb (s .kind) 3) 2 (t .flag) ≡ true
+  pub start : fieldOk (eqb (s .kind) 0) (s .n) (t .start) ≡ true
 
 -- what stateOk tests
 pub record InRange (s : State) : Type 0 where
@@ -50,7 +51,8 @@ pub record InRange (s : State) : Type 0 where
 task-range : (s : State) (q : ℕ) (t : Task) → taskOk s q t ≡ true → TaskRange s q t
 unfolding taskOk
 task-range s q t e =
-    let e9 = and-eq-true-iff _ _ .0 e in
+    let e10 = and-eq-true-iff _ _ .0 e in
+    let e9 = and-eq-true-iff _ _ .0 (e10 .0) in
     let e8 = and-eq-true-iff _ _ .0 (e9 .0) in
     let e7 = and-eq-true-iff _ _ .0 (e8 .0) in
     let e6 = and-eq-true-iff _ _ .0 (e7 .0) in
@@ -70,6 +72,7 @@ task-range s q t e =
       aim = e7 .1;
       toggle = e8 .1;
       flag = e9 .1;
+      start = e10 .1;
     }
 
 range-task : (s : State) (q : ℕ) (t : Task) → TaskRange s q t → taskOk s q t ≡ true
@@ -86,6 +89,7 @@ range-task s q t r =
       r .aim,
       r .toggle,
       r .flag,
+      r .start,
     )
 
 tasks-at : (s : State) (m q : ℕ) → tasksOk s m ≡ true → q < m → pick (ltb q (s .n)) (taskOk s q (taskAt s q)) (taskZero (taskAt s q)) ≡ true

@@ -25,7 +25,7 @@ use Rattle.lines.specs.Ring.{ringLine}
 use Rattle.lines.specs.Tree.{treeLine}
 use Rattle.lines.specs.Rule.{effectFrom}
 use Rattle.lines.specs.Words.{writes, arrivalsAfter, senseAfter, placeOf, taskAfter}
-use Rattle.lines.specs.LineLaws.{Does, keeps, raises, stays, refused-7, refused-11, does}
+use Rattle.lines.specs.LineLaws.{Does, keeps, raises, stays, refused-7, refused-11, does, start-kept}
 use Rattle.machine.specs.declared.State.{State}
 use Rattle.machine.specs.declared.Move.{Move}
 use Rattle.machine.specs.declared.Move.the-variants.{Moved, Waited}
@@ -252,15 +252,6 @@ put-same s p t h = getD-set-same (s .tasks) p t zeroTask h
 pub put-other : (s : State) (p q : ℕ) (t : Task) → q ≢ p → taskAt (withTask s p t) q ≡ taskAt s q
 put-other s p q t ne = getD-set-other (s .tasks) p q t zeroTask ne
 
--- what holds of the stored task, and of the task that stood at q, holds of the task at q after the store
-pub by-put : (P : Task → Type 0) (s : State) (p q : ℕ) (t : Task) → p < length (s .tasks)
-    → (q ≡ p → P t) → (q ≢ p → P (taskAt s q)) → P (taskAt (withTask s p t) q)
-by-put P s p q t here own other = go (ℕ-discrete q p)
-  where
-    go : Dec (q ≡ p) → P (taskAt (withTask s p t) q)
-    go (yes e) = rw (e, put-same s p t here) (own e)
-    go (no ne) = rw (put-other s p q t ne) (other ne)
-
 -- a field of the tasks, or what is made of some, after a store
 module _ {A : Type 0} (f : Task → A) where
   -- a store that leaves the field of its own task leaves every task's
@@ -288,3 +279,23 @@ module _ {A : Type 0} (f : Task → A) where
 
     pub other-field : (w : Write) (s : State) (p q : ℕ) (t : Task) → q ≢ p → f (taskAt (written w (withTask s p t)) q) ≡ f (taskAt s q)
     other-field w s p q t ne = written-field w (withTask s p t) q ∙ ap f (put-other s p q t ne)
+
+-- ---- a task's start
+
+start-applied : (o : Outcome) (s : State) (p q : ℕ) (t : Task) (w : Write) → t .start ≡ taskAt s p .start → taskAt (applied o s p t w) q .start ≡ taskAt s q .start
+start-applied (Made Moved) s p q t w e = written-field start (λ x y. (refl, refl)) w (withTask s p t) q ∙ put-field start s p q t e
+  where
+    start : Task → ℕ
+    start x = x .start
+start-applied (Made Waited) s p q t w e = refl
+start-applied (Refused k) s p q t w e = refl
+
+-- 02, P1: each task keeps its start, whatever turn is made
+pub turn-start : (s : State) (p q : ℕ) → taskAt (turnOf s p .state) q .start ≡ taskAt s q .start
+unfolding effectOf
+turn-start s p q =
+    by-turn (λ r. taskAt (r .state) q .start ≡ taskAt s q .start) s p (λ k. refl)
+    (λ ok h. rw (step-state s p) (start-applied (outcomeOf (effectOf s p .act)) s p q (effectOf s p .task) (effectOf s p .write) kept))
+  where
+    kept : effectOf s p .task .start ≡ taskAt s p .start
+    kept = start-kept (sharedOf s) (tableOf s) p (taskAt s p) (taskAt s (taskAt s p .looked)) .start

@@ -8,12 +8,12 @@ use parents::Checked;
 ghost use mathlib.Core.Path.{_≡_};
 ghost use Prim.Native.Nat.{_≤_};
 ghost use lib.ListN.{length, replicate};
-ghost use Rattle.lines.specs.Setters.{zeroTask, withLine};
+ghost use Rattle.lines.specs.Setters.{zeroTask, withLine, withStart};
 ghost use Rattle.machine.specs.Fresh as defs;
 
-// 0, or the reason that refuses the table: 5 or 6.
-fn table_reason(kind: usize, n: usize, parents: &[u8]) -> u8
-    ensures { λ r. ⌜ r ≡ defs.tableReason kind n (now (parents .entry)) ⌝ }
+// 0, or the reason that refuses the table of parents: 5 or 6.
+fn parents_reason(kind: usize, n: usize, parents: &[u8]) -> u8
+    ensures { λ r. ⌜ r ≡ defs.parentsReason kind n (now (parents .entry)) ⌝ }
 {
     if kind != 3 {
         return if parents.len() == 0 { 0 } else { 5 };
@@ -23,6 +23,21 @@ fn table_reason(kind: usize, n: usize, parents: &[u8]) -> u8
         Checked::WrongLength => 5,
         Checked::NotLower => 6,
     }
+}
+
+// 0, or the reason that refuses the table of starts: 12. Only kind 0 takes one.
+fn starts_reason(kind: usize, n: usize, starts: &[u8]) -> u8
+    ensures { λ r. ⌜ r ≡ defs.startsReason kind n (now (starts .entry)) ⌝ }
+{
+    let whole = (kind == 0) & (starts.len() == n) & range::all_below(n, starts);
+    if (starts.len() == 0) | whole { 0 } else { 12 }
+}
+
+// The first of two reasons that applies; a reason that doesn't is 0.
+fn first_reason(a: u8, b: u8) -> u8
+    ensures { λ r. ⌜ r ≡ defs.firstReason a b ⌝ }
+{
+    if a == 0 { b } else { a }
 }
 
 // 1 for kind 1, which alone uses it.
@@ -40,6 +55,7 @@ fn zero_task() -> Task
         aim: 0,
         toggle: 0,
         flag: 0,
+        start: 0,
         count: 0,
         list: 0,
         line: 0,
@@ -64,24 +80,32 @@ fn zero_table() -> [u8; 64]
     [0; 64]
 }
 
-// A fresh task: at line 11, all else 0.
-fn fresh_task() -> Task
-    ensures { λ r. ⌜ r ≡ withLine zeroTask 11 ⌝ }
+// The start of a task; 0 past the table.
+fn start_of(starts: &[u8], q: usize) -> u8
+    ensures { λ r. ⌜ r ≡ defs.startOf (now (starts .entry)) q ⌝ }
+{
+    if q < starts.len() { starts[q] } else { 0 }
+}
+
+// A fresh task: at line 11, with its start, all else 0.
+fn fresh_task(start: u8) -> Task
+    ensures { λ r. ⌜ r ≡ withStart (withLine zeroTask 11) start ⌝ }
 {
     let mut fresh = zero_task();
     fresh.line = 11;
+    fresh.start = start;
     fresh
 }
 
-// The tasks of a fresh state: n at line 11, and all zero from n on.
-fn fresh_tasks(n: usize) -> [Task; 64]
+// The tasks of a fresh state: n fresh ones, and all zero from n on.
+fn fresh_tasks(n: usize, starts: &[u8]) -> [Task; 64]
     requires { ⌜ n ≤ 64 ⌝ }
-    ensures { λ r. ⌜ r ≡ defs.freshTasks n (λ _. withLine zeroTask 11) ⌝ }
+    ensures { λ r. ⌜ r ≡ defs.freshTasks n (λ q. withStart (withLine zeroTask 11) (defs.startOf (now (starts .entry)) q)) ⌝ }
 {
     let mut all = zero_tasks();
     let mut q = 0;
     while q < n {
-        all[q] = fresh_task();
+        all[q] = fresh_task(start_of(starts, q));
         q += 1;
     }
     all
@@ -120,8 +144,8 @@ fn zero_state() -> State
 
 impl Setup {
     // 0, or the first reason that applies.
-    fn reason(self, parents: &[u8]) -> u8
-        ensures { λ r. ⌜ r ≡ defs.freshReason (defs.inputsOf self (now (parents .entry))) ⌝ }
+    fn reason(self, parents: &[u8], starts: &[u8]) -> u8
+        ensures { λ r. ⌜ r ≡ defs.freshReason (defs.inputsOf self (now (parents .entry)) (now (starts .entry))) ⌝ }
     {
         if !range::is_kind(self.kind) {
             return 2;
@@ -132,14 +156,16 @@ impl Setup {
         if !range::modulus_ok(self.kind, self.modulus) {
             return 4;
         }
-        table_reason(self.kind, self.n, parents)
+        let of_parents = parents_reason(self.kind, self.n, parents);
+        let of_starts = starts_reason(self.kind, self.n, starts);
+        first_reason(of_parents, of_starts)
     }
 
-    // The fresh state; all zero where it is refused.
-    pub fn fresh(self, parents: &[u8]) -> Fresh
-        ensures { λ r. ⌜ r ≡ defs.freshOf (defs.inputsOf self (now (parents .entry))) ⌝ }
+    // The fresh state; all zero where it is refused. A table of length 0 gives every task the start 0.
+    pub fn fresh(self, parents: &[u8], starts: &[u8]) -> Fresh
+        ensures { λ r. ⌜ r ≡ defs.freshOf (defs.inputsOf self (now (parents .entry)) (now (starts .entry))) ⌝ }
     {
-        let reason = self.reason(parents);
+        let reason = self.reason(parents, starts);
         if reason != 0 {
             return Fresh {
                 state: zero_state(),
@@ -147,7 +173,7 @@ impl Setup {
             };
         }
         let table = padded(parents);
-        let tasks = fresh_tasks(self.n);
+        let tasks = fresh_tasks(self.n, starts);
         let state = State {
             kind: self.kind as u8,
             n: self.n as u8,

@@ -9,7 +9,7 @@ ghost use lib.Dec.{eqb, ltb};
 ghost use Rattle.bitset.specs.Choice.{pick};
 ghost use Rattle.parents.specs.Parents.{checkNumber};
 ghost use Rattle.machine.specs.Range as defs;
-ghost use Rattle.machine.specs.Fresh.{isKind, modulusOk};
+ghost use Rattle.machine.specs.Fresh.{isKind, modulusOk, allBelow};
 
 // Whether there is such a kind.
 pub(crate) fn is_kind(kind: usize) -> bool
@@ -69,16 +69,17 @@ fn task_zero(task: Task) -> bool
         & (task.aim == 0)
         & (task.toggle == 0)
         & (task.flag == 0)
+        & (task.start == 0)
 }
 
-// Whether every byte is 0.
-fn all_zero(list: &[u8]) -> bool
-    ensures { λ r. ⌜ r ≡ defs.allZero (now (list .entry)) ⌝ }
+// Whether every entry of a table is below the bound.
+pub(crate) fn all_below(bound: usize, table: &[u8]) -> bool
+    ensures { λ r. ⌜ r ≡ allBelow bound (now (table .entry)) ⌝ }
 {
     let mut ok = true;
     let mut i = 0;
-    while i < list.len() {
-        ok = ok & (list[i] == 0);
+    while i < table.len() {
+        ok = ok & ((table[i] as usize) < bound);
         i += 1;
     }
     ok
@@ -129,6 +130,7 @@ impl State {
             & field_ok(kind == 1, 2, task.aim)
             & field_ok(kind == 2, 2, task.toggle)
             & field_ok(kind == 3, 2, task.flag)
+            & field_ok(kind == 0, n, task.start)
     }
 
     // Whether the task at q is as it must be there: in range below N, and all zero from N on.
@@ -162,10 +164,10 @@ impl State {
     {
         let parents = self.parents;
         if self.kind != 3 {
-            return all_zero(&parents);
+            return all_below(1, &parents);
         }
         let length = table_length(self.n);
-        let rest = all_zero(&parents[length..]);
+        let rest = all_below(1, &parents[length..]);
         accepted(parents::check(&parents[..length], self.n as usize)) & rest
     }
 

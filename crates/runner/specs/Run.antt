@@ -47,18 +47,12 @@ abbrev pub endingOf : Stop → Ending → Ending
 endingOf nothing end = end
 endingOf (refusal p k) end = Stopped k
 
--- the paper's numbers of an ending: the reason, 0 where nothing was refused; the place of 9
+-- the paper's number of an ending: the reason, 0 where nothing was refused
 abbrev pub endingReason : Ending → ℕ
 endingReason Done = 0
 endingReason Spent = 0
 endingReason (Stopped k) = k
 endingReason (Refused k at) = k
-
-abbrev pub endingPlace : Ending → ℕ
-endingPlace Done = 0
-endingPlace Spent = 0
-endingPlace (Stopped k) = 0
-endingPlace (Refused k at) = at
 
 -- "A run 7 to 10"; 10: a "log under twice the smaller of allowance and schedule length", of `room` bytes here
 unfoldable pub runReason : State → List ℕ → ℕ → ℕ → ℕ

@@ -7,7 +7,7 @@ use lib.Dec.{eqb, leb, ltb}
 use lib.ListN.{length, take, drop}
 use Rattle.bitset.specs.Choice.{pick}
 use Rattle.schedule.specs.Passes.{unknownAt, allTasks}
-use Rattle.machine.specs.Fresh.{Inputs, freshReason}
+use Rattle.machine.specs.Fresh.{Inputs, inputsOf, freshReason}
 
 -- "digit, space or line feed"
 abbrev pub isDigit : ℕ → Bool
@@ -58,10 +58,11 @@ pub data Reading : Type 0 where
 abbrev pub parentCount : ℕ → ℕ → ℕ
 parentCount kind n = pick (eqb kind 3) n 0
 
+-- no table but the parents is given
 abbrev pub fiveOf : ℕ → ℕ → ℕ → List ℕ → Five
 fiveOf kind n modulus rest =
     record {
-      inputs = record { kind = kind; n = n; modulus = modulus; parents = take (parentCount kind n) rest };
+      inputs = inputsOf (record { kind = kind; n = n; modulus = modulus }) (take (parentCount kind n) rest) [];
       schedule = drop (parentCount kind n) rest;
     }
 

@@ -95,7 +95,7 @@ low-reason i =
 
 -- parents that are accepted are their own bytes
 pub low-inputs : (i : Inputs) → freshReason i ≡ 0 → lowInputs i ≡ i
-low-inputs i e = ap (withParents i) (low-list (i .parents) (λ q l. go (eqb (i .kind) 3) (a .table) q l))
+low-inputs i e = ap (withParents i) (low-list (i .parents) (λ q l. go (eqb (i .kind) 3) (a .parents) q l))
   where
     a : Accepted i
     a = accepted-inputs i e

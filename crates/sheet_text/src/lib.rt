@@ -4,14 +4,17 @@ mod print;
 mod read;
 
 use answer::Sheet;
+use machine::Fresh;
 use machine::Setup;
 use machine::State;
 use read::Found;
 use schedule::answer::Passes;
 ghost use mathlib.Core.Path.{_≡_};
+ghost use mathlib.Core.List.{[]};
 ghost use Prim.Native.Nat.{min, _≤_};
 ghost use lib.ListN.{length};
 ghost use Rattle.schedule.specs.Passes.{passesAnswer};
+ghost use Rattle.machine.specs.Fresh.{inputsOf, freshOf};
 ghost use Rattle.machine.specs.Range.{Valid};
 ghost use Rattle.sheet_text.specs.Read.{parentCount, readNumbers};
 ghost use Rattle.sheet_text.specs.Print.{printed, sheetOf, pageOf};
@@ -72,6 +75,13 @@ fn parent_count(kind: usize, n: usize, count: usize) -> usize
     if n < count { n } else { count }
 }
 
+// The fresh state of a text, which gives no table but the parents.
+fn fresh_state(setup: Setup, parents: &[u8]) -> Fresh
+    ensures { λ r. ⌜ r ≡ freshOf (inputsOf setup (now (parents .entry)) []) ⌝ }
+{
+    setup.fresh(parents, &[])
+}
+
 // Prints the sheet of a text's numbers, of which there are three at least.
 fn print_numbers(page: &mut [u8; 2048], numbers: &[u32]) -> usize
     requires { ⌜ 3 ≤ length (now numbers) ⌝ }
@@ -86,7 +96,7 @@ fn print_numbers(page: &mut [u8; 2048], numbers: &[u32]) -> usize
     let count = numbers.len() - 3;
     let parents = parent_count(kind, n, count);
     let setup = Setup { kind, n, modulus };
-    let fresh = setup.fresh(&bytes[..parents]);
+    let fresh = fresh_state(setup, &bytes[..parents]);
     let reason = fresh.reason;
     if reason != 0 {
         return print::refusal(page, reason as usize, 0);

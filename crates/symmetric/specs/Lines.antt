@@ -3,11 +3,10 @@ use mathlib.Core.Path.{_≡_, sym, subst}
 use mathlib.Core.Bool.{not}
 use mathlib.Core.Logic.{_≢_}
 use Prim.Native.Nat.{ℕ}
-use native.Mathlib.Omega.{arith}
 use lib.Dec.{eqb}
 use borrow.Author.Tests.{eqb-false, not-true}
-use Rattle.bitset.specs.Set.{bit, allOf, leastOf, withoutOf}
-use Rattle.bitset.specs.SetLaws.{within-lt, least-of-list}
+use Rattle.bitset.specs.Set.{bit, allOf, firstOf, withoutOf}
+use Rattle.bitset.specs.SetLaws.{within-lt, first-member}
 use Rattle.lines.specs.declared.Task.{Task}
 use Rattle.lines.specs.declared.Effect.{Effect}
 use Rattle.lines.specs.declared.Write.the-variants.{Nothing}
@@ -37,13 +36,13 @@ by-line P s p ok kind able l11 l12 l13-none l13-some l14 =
     subst P (sym (effect-0 s p kind))
     (by-symmetric (Moving P) (t .line) t (λ _. no-wait P t) (λ l _. l11 l) (s .n) (s .modulus) (taskAt s (t .looked) .tag)
     (λ l. if-counted P t (λ _. l12 l))
-    (λ l. if-chosen P 11 (leastOf (t .list)) t (l13-none l) (λ ne. l13-some (leastOf (t .list)) l (taken ne)))
+    (λ l. if-chosen P 11 (firstOf (t .list) (t .start)) t (l13-none l) (λ ne. l13-some (firstOf (t .list) (t .start)) l (taken ne)))
     (λ l. if-awaited P (not (eqb (taskAt s (t .looked) .tag) (t .old))) t (λ d. l14 l (eqb-false _ _ (not-true _ d))))
     (rw (effect-0 s p kind) at (able .1)))
   where
     t : Task
     t = taskAt s p
 
-    -- the least task on a list is on it
-    taken : t .list ≢ 0 → bit (t .list) (leastOf (t .list)) ≡ 1
-    taken ne = least-of-list (t .list) (omega arith) (within-lt 64 (t .list) (listRoom s p) (range s ok .tasks p (able .0) .list)) .0
+    -- whatever the start, the first task of a list is on it
+    taken : t .list ≢ 0 → bit (t .list) (firstOf (t .list) (t .start)) ≡ 1
+    taken = first-member (t .list) (t .start) (within-lt 64 (t .list) (listRoom s p) (range s ok .tasks p (able .0) .list)) .1

@@ -20,21 +20,27 @@ struct WholeRun {
 }
 
 // Runs the whole schedule from a fresh state; one that is refused runs nothing.
-fn whole_run(setup: Setup, parents: &[u8], schedule: &[u8], log: &mut [u8]) -> WholeRun
-    ensures { λ r. ⌜ r ≡ wholeRunOf (inputsOf setup (now (parents .entry))) (now (schedule .entry)) (now (log .entry)) ⌝ }
-    ensures { λ _. ⌜ now (log .exit) ≡ wholeRunLog (inputsOf setup (now (parents .entry))) (now (schedule .entry)) (now (log .entry)) ⌝ }
+fn whole_run(
+    setup: Setup,
+    parents: &[u8],
+    starts: &[u8],
+    schedule: &[u8],
+    log: &mut [u8],
+) -> WholeRun
+    ensures { λ r. ⌜ r ≡ wholeRunOf (inputsOf setup (now (parents .entry)) (now (starts .entry))) (now (schedule .entry)) (now (log .entry)) ⌝ }
+    ensures { λ _. ⌜ now (log .exit) ≡ wholeRunLog (inputsOf setup (now (parents .entry)) (now (starts .entry))) (now (schedule .entry)) (now (log .entry)) ⌝ }
 {
-    let fresh = setup.fresh(parents);
-    let start = fresh.state;
+    let fresh = setup.fresh(parents, starts);
+    let first = fresh.state;
     let reason = fresh.reason;
     if reason != 0 {
         return WholeRun {
-            state: start,
+            state: first,
             reason,
             number: 0,
         };
     }
-    let ran = runner::run(start, schedule, schedule.len(), log);
+    let ran = runner::run(first, schedule, schedule.len(), log);
     let state = ran.state;
     let ending = ran.ending;
     WholeRun {
@@ -44,7 +50,7 @@ fn whole_run(setup: Setup, parents: &[u8], schedule: &[u8], log: &mut [u8]) -> W
     }
 }
 
-// Runs the whole schedule from a fresh state, and writes two bytes a turn to the log. Answers the reason that refused the fresh
+// Runs the whole schedule from a fresh state with these tables of parents and starts, and writes two bytes a turn to the log. Answers the reason that refused the fresh
 // state, the run or a turn; 0 if nothing was refused. The number is that of the turns made, for reason 9 the place of the first turn
 // that is no task.
 #[no_mangle]
@@ -53,15 +59,16 @@ pub extern "C" fn tungwaff_run(
     n: usize,
     modulus: usize,
     parents: &[u8],
+    starts: &[u8],
     schedule: &[u8],
     log: &mut [u8],
     number: &mut usize,
 ) -> u8
-    ensures { λ r. ⌜ r ≡ wholeRunOf (inputsFrom kind n modulus (now (parents .entry))) (now (schedule .entry)) (now (log .entry)) .reason ⌝ }
-    ensures { λ _. ⌜ now (number .exit) ≡ wholeRunOf (inputsFrom kind n modulus (now (parents .entry))) (now (schedule .entry)) (now (log .entry)) .number ⌝ }
-    ensures { λ _. ⌜ now (log .exit) ≡ wholeRunLog (inputsFrom kind n modulus (now (parents .entry))) (now (schedule .entry)) (now (log .entry)) ⌝ }
+    ensures { λ r. ⌜ r ≡ wholeRunOf (inputsFrom kind n modulus (now (parents .entry)) (now (starts .entry))) (now (schedule .entry)) (now (log .entry)) .reason ⌝ }
+    ensures { λ _. ⌜ now (number .exit) ≡ wholeRunOf (inputsFrom kind n modulus (now (parents .entry)) (now (starts .entry))) (now (schedule .entry)) (now (log .entry)) .number ⌝ }
+    ensures { λ _. ⌜ now (log .exit) ≡ wholeRunLog (inputsFrom kind n modulus (now (parents .entry)) (now (starts .entry))) (now (schedule .entry)) (now (log .entry)) ⌝ }
 {
-    let run = whole_run(Setup { kind, n, modulus }, parents, schedule, log);
+    let run = whole_run(Setup { kind, n, modulus }, parents, starts, schedule, log);
     *number = run.number;
     run.reason
 }
@@ -75,16 +82,17 @@ pub extern "C" fn tungwaff_turn(
     n: usize,
     modulus: usize,
     parents: &[u8],
+    starts: &[u8],
     schedule: &[u8],
     log: &mut [u8],
     task: usize,
     number: &mut usize,
 ) -> u8
-    ensures { λ r. ⌜ r ≡ thenTurnReason (wholeRunOf (inputsFrom kind n modulus (now (parents .entry))) (now (schedule .entry)) (now (log .entry))) task ⌝ }
-    ensures { λ _. ⌜ now (number .exit) ≡ thenTurnNumber (wholeRunOf (inputsFrom kind n modulus (now (parents .entry))) (now (schedule .entry)) (now (log .entry))) task ⌝ }
-    ensures { λ _. ⌜ now (log .exit) ≡ wholeRunLog (inputsFrom kind n modulus (now (parents .entry))) (now (schedule .entry)) (now (log .entry)) ⌝ }
+    ensures { λ r. ⌜ r ≡ thenTurnReason (wholeRunOf (inputsFrom kind n modulus (now (parents .entry)) (now (starts .entry))) (now (schedule .entry)) (now (log .entry))) task ⌝ }
+    ensures { λ _. ⌜ now (number .exit) ≡ thenTurnNumber (wholeRunOf (inputsFrom kind n modulus (now (parents .entry)) (now (starts .entry))) (now (schedule .entry)) (now (log .entry))) task ⌝ }
+    ensures { λ _. ⌜ now (log .exit) ≡ wholeRunLog (inputsFrom kind n modulus (now (parents .entry)) (now (starts .entry))) (now (schedule .entry)) (now (log .entry)) ⌝ }
 {
-    let run = whole_run(Setup { kind, n, modulus }, parents, schedule, log);
+    let run = whole_run(Setup { kind, n, modulus }, parents, starts, schedule, log);
     let reason = run.reason;
     if reason != 0 {
         *number = run.number;
@@ -106,15 +114,16 @@ pub extern "C" fn tungwaff_ready(
     n: usize,
     modulus: usize,
     parents: &[u8],
+    starts: &[u8],
     schedule: &[u8],
     log: &mut [u8],
     number: &mut usize,
 ) -> u8
-    ensures { λ r. ⌜ r ≡ thenReadyReason (wholeRunOf (inputsFrom kind n modulus (now (parents .entry))) (now (schedule .entry)) (now (log .entry))) ⌝ }
-    ensures { λ _. ⌜ now (number .exit) ≡ thenReadyNumber (wholeRunOf (inputsFrom kind n modulus (now (parents .entry))) (now (schedule .entry)) (now (log .entry))) ⌝ }
-    ensures { λ _. ⌜ now (log .exit) ≡ wholeRunLog (inputsFrom kind n modulus (now (parents .entry))) (now (schedule .entry)) (now (log .entry)) ⌝ }
+    ensures { λ r. ⌜ r ≡ thenReadyReason (wholeRunOf (inputsFrom kind n modulus (now (parents .entry)) (now (starts .entry))) (now (schedule .entry)) (now (log .entry))) ⌝ }
+    ensures { λ _. ⌜ now (number .exit) ≡ thenReadyNumber (wholeRunOf (inputsFrom kind n modulus (now (parents .entry)) (now (starts .entry))) (now (schedule .entry)) (now (log .entry))) ⌝ }
+    ensures { λ _. ⌜ now (log .exit) ≡ wholeRunLog (inputsFrom kind n modulus (now (parents .entry)) (now (starts .entry))) (now (schedule .entry)) (now (log .entry)) ⌝ }
 {
-    let run = whole_run(Setup { kind, n, modulus }, parents, schedule, log);
+    let run = whole_run(Setup { kind, n, modulus }, parents, starts, schedule, log);
     let reason = run.reason;
     if reason != 0 {
         *number = run.number;

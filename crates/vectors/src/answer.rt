@@ -5,6 +5,7 @@ use crate::print::Output;
 use crate::print::Said;
 use crate::print::Word;
 use crate::request;
+use crate::request::MOST_TABLE;
 use crate::text::Line;
 use machine::Move;
 use machine::Outcome;
@@ -27,12 +28,10 @@ pub struct Printed {
     pub at: usize,
 }
 
-// The most bytes of a log, numbers of a list and bytes of a table.
+// The most bytes of a log and numbers of a list.
 const MOST_LOG: usize = 131072;
 
 const MOST_LIST: usize = 131072;
-
-const MOST_TABLE: usize = 4096;
 
 // A refusal, for 9 with its place.
 fn refused(reason: u8, place: usize) -> Said {
@@ -43,8 +42,8 @@ fn refused(reason: u8, place: usize) -> Said {
     }
 }
 
-fn fresh(setup: Setup, parents: &[u8]) -> Answered {
-    let answer = setup.fresh(parents);
+fn fresh(setup: Setup, parents: &[u8], starts: &[u8]) -> Answered {
+    let answer = setup.fresh(parents, starts);
     let state = answer.state;
     let reason = answer.reason;
     if reason == 0 {
@@ -107,20 +106,28 @@ fn change(state: State, field: u64, task: usize, value: u64) -> Answered {
     }
 }
 
+// A fresh state with its tables one after the other: so many parents, and then the starts.
+fn fresh_from(line: Line, tables: &[u8], parents: usize) -> Answered {
+    let setup = Setup {
+        kind: line.head[1] as usize,
+        n: line.head[2] as usize,
+        modulus: line.head[3] as usize,
+    };
+    fresh(
+        setup,
+        print::part(tables, 0, parents),
+        print::part(tables, parents, tables.len()),
+    )
+}
+
 // The requests that answer no list.
-fn brief(state: State, ask: u64, line: Line, parents: &[u8]) -> Answered {
+fn brief(state: State, ask: u64, line: Line, tables: &[u8]) -> Answered {
     let a = line.head[1];
     let b = line.head[2];
     let c = line.head[3];
     match ask {
-        1 => fresh(
-            Setup {
-                kind: a as usize,
-                n: b as usize,
-                modulus: c as usize,
-            },
-            parents,
-        ),
+        1 => fresh_from(line, tables, tables.len()),
+        10 => fresh_from(line, tables, line.head[4] as usize),
         2 => turn(state, a as usize),
         3 => ready(state),
         6 => change(state, a, b as usize, c),
@@ -234,7 +241,7 @@ fn shape(shape: usize, n: usize, len: usize, out: &mut Output, at: usize) -> usi
     shape_on(shape, n, &mut table[0..len], out, at)
 }
 
-// The answer to a line, with no line feed. Its parents or turns stand in `tail`.
+// The answer to a line, with no line feed. Its tables or turns stand in `tail`.
 pub(crate) fn answer(
     state: State,
     line: Line,

@@ -4,7 +4,7 @@ use crate::print::Output;
 use lines::Task;
 use machine::State;
 
-// A task's fields, each after a space. Their places in this order are their numbers in a change.
+// A task's fields, each after a space, in the order of their numbers in a change: 0 to 8, and 15.
 fn show_task(t: Task, out: &mut Output, at: usize) -> usize {
     let mut k = print::next(t.line as u64, out, at);
     k = print::next(t.count as u64, out, k);
@@ -14,7 +14,8 @@ fn show_task(t: Task, out: &mut Output, at: usize) -> usize {
     k = print::next(t.looked as u64, out, k);
     k = print::next(t.aim as u64, out, k);
     k = print::next(t.toggle as u64, out, k);
-    print::next(t.flag as u64, out, k)
+    k = print::next(t.flag as u64, out, k);
+    print::next(t.start as u64, out, k)
 }
 
 fn show_parents(state: State, out: &mut Output, at: usize) -> usize {
@@ -46,7 +47,7 @@ pub(crate) fn show(state: State, out: &mut Output, at: usize) -> usize {
 // How many tasks have a field of that number; a field of the state itself is at 0.
 fn places(field: u64) -> usize {
     match field {
-        0..=8 | 14 => 64,
+        0..=8 | 14 | 15 => 64,
         9..=13 => 1,
         _ => 0,
     }
@@ -80,7 +81,8 @@ fn task_with(mut t: Task, field: u64, value: u64) -> Task {
         5 => t.looked = byte,
         6 => t.aim = byte,
         7 => t.toggle = byte,
-        _ => t.flag = byte,
+        8 => t.flag = byte,
+        _ => t.start = byte,
     }
     t
 }
@@ -91,18 +93,17 @@ pub(crate) fn with(mut state: State, field: u64, task: usize, value: u64) -> Sta
     if 64 <= task {
         return state;
     }
-    if field < 9 {
-        let t = task_with(state.tasks[task], field, value);
-        state.tasks[task] = t;
-        return state;
-    }
     match field {
         9 => state.kind = byte,
         10 => state.n = byte,
         11 => state.modulus = byte,
         12 => state.arrivals = byte,
         13 => state.sense = byte,
-        _ => state.parents[task] = byte,
+        14 => state.parents[task] = byte,
+        _ => {
+            let t = task_with(state.tasks[task], field, value);
+            state.tasks[task] = t;
+        }
     }
     state
 }

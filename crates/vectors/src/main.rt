@@ -9,6 +9,7 @@
 //     7 N LISTLEN T..           passes, to a list of 2^32 - 1          their number or the refusal, the list
 //     8 N PLACE T..             the first pass from a place            its length and its bytes
 //     9 SHAPE N TABLELEN        a shape, to a table of bytes 255       ok or refused K, the table
+//     10 KIND N R NP NS NW P.. S.. W..    as 1, with so many parents, starts and work lengths (none of these last: NW is 0)
 //
 // Any other line is answered `bad line` and changes nothing. Standard input is read in blocks. Their bytes go one by one to the line that is being
 // read (text.rt); a line feed ends it, and it is told which request it is (request.rt) and answered (answer.rt, fields.rt). The answers are gathered
@@ -44,7 +45,7 @@ fn start() -> Replay {
         n: 0,
         modulus: 0,
     };
-    let fresh = setup.fresh(&[]);
+    let fresh = setup.fresh(&[], &[]);
     let state = fresh.state;
     Replay {
         state,

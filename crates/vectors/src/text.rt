@@ -1,4 +1,4 @@
-// The line that is being read: decimal numbers below 2^64 of at most 20 digits, separated by single spaces. The first four numbers stand in the
+// The line that is being read: decimal numbers below 2^64 of at most 20 digits, separated by single spaces. The first seven numbers stand in the
 // line itself. Each number's low byte goes to a lent buffer, since a schedule or a table has thousands; `wide` tells where that is not all of it.
 
 // The most bytes of a line, without the line feed, and the most digits of a number.
@@ -9,6 +9,9 @@ const MOST_DIGITS: usize = 20;
 // The most numbers of a line: those of a request with 70,000 turns.
 pub const MOST_NUMBERS: usize = 70003;
 
+// The most numbers of a request before its tables or turns.
+const MOST_HEAD: usize = 7;
+
 // The low byte of each number.
 pub type Entries = [u8; MOST_NUMBERS];
 
@@ -18,10 +21,10 @@ pub struct Line {
     // The digits of the number being read, and its value by them.
     pub digits: usize,
     pub value: u64,
-    // The numbers before that one, how many they are up to the last above 255, and the first four.
+    // The numbers before that one, how many they are up to the last above 255, and the first seven.
     pub count: usize,
     pub wide: usize,
-    pub head: [u64; 4],
+    pub head: [u64; MOST_HEAD],
     // Whether it is no line of numbers.
     pub bad: bool,
 }
@@ -33,7 +36,7 @@ pub(crate) fn empty() -> Line {
         value: 0,
         count: 0,
         wide: 0,
-        head: [0; 4],
+        head: [0; MOST_HEAD],
         bad: false,
     }
 }
@@ -72,7 +75,7 @@ impl Line {
             return self.spoilt();
         }
         entries[k] = (value % 256) as u8;
-        if k < 4 {
+        if k < MOST_HEAD {
             self.head[k] = value;
         }
         self.count = k + 1;

@@ -4,7 +4,7 @@
 use super::values::{any_task_count, near, near_length, spoil};
 use crate::passes::Passes;
 use crate::random::Random;
-use crate::recorder::Recorder;
+use crate::recorder::{line, Recorder};
 use crate::schedules;
 use crate::spelling::misspell;
 
@@ -51,7 +51,8 @@ pub fn any_shape(recorder: &mut Recorder, random: &mut Random) {
 /// Lines that are almost requests.
 pub fn misspelt(recorder: &mut Recorder, random: &mut Random) {
     for _ in 0..random.length(1, 6) {
-        let mut text = any_line(random).into_bytes();
+        let request = if random.once_in(4) { any_tables(random) } else { any_line(random) };
+        let mut text = request.into_bytes();
         for _ in 0..random.length(0, 2) {
             misspell(random, &mut text, OTHER_BYTES);
         }
@@ -62,7 +63,7 @@ pub fn misspelt(recorder: &mut Recorder, random: &mut Random) {
 /// A request of random numbers, a few with zeros before them.
 fn any_line(random: &mut Random) -> String {
     let length = random.length(1, 8);
-    let mut numbers = vec![random.below(11)];
+    let mut numbers = vec![random.below(12)];
     for _ in 1..length {
         let number = if random.once_in(3) { near(random) } else { random.below(5) };
         numbers.push(number.min(1 << 32));
@@ -76,4 +77,18 @@ fn any_line(random: &mut Random) -> String {
         format!("{number:0width$}")
     });
     words.collect::<Vec<_>>().join(" ")
+}
+
+/// Request 10 with lengths of tables that may be wrong, and about as many entries as they say.
+fn any_tables(random: &mut Random) -> String {
+    let lengths = [0; 3].map(|_| if random.once_in(6) { near(random) } else { random.below(4) });
+    let works = if random.once_in(4) { lengths[2] } else { 0 };
+    let modulus = random.pick(&[0, 3]);
+    let mut numbers = vec![10, random.below(4), random.length(1, 3) as u64, modulus];
+    numbers.extend([lengths[0], lengths[1], works]);
+    let entries = [lengths[0], lengths[1], works].map(|length| length % 256 % 70);
+    for _ in 0..near_length(random, entries.iter().sum()) {
+        numbers.push(if random.once_in(20) { near(random) } else { random.below(3) });
+    }
+    line(&numbers, &[])
 }

@@ -1,12 +1,13 @@
 //! Random damage: fields changed to values in and near their ranges, whole random states in
 //! range, and counts near their limit.
 
-use super::steps::{accepted_fresh, any_run, turn_of_ready, turn_of_someone};
+use super::fresh::accepted_fresh;
+use super::steps::{any_run, turn_of_ready, turn_of_someone};
 use super::values::TASK_COUNTS;
 use crate::machine::{in_range, State, FETCH_AND_INCREMENT, MAX_COUNT, RING, SYMMETRIC, TREE};
 use crate::random::Random;
 use crate::recorder::Recorder;
-use crate::requests::field_value;
+use crate::requests::{field_value, TASK_FIELDS};
 
 /// Counts around the limit and elsewhere.
 const COUNTS: [u64; 8] = [0, 1, 2, 3, 999_998, 999_999, 1_000_000, 1_000_001];
@@ -41,7 +42,7 @@ pub fn damage_for_a_while(recorder: &mut Recorder, random: &mut Random) {
 fn any_change(recorder: &Recorder, random: &mut Random) -> (u64, u64, u64) {
     let state = recorder.state();
     let n = recorder.n().clamp(1, 64);
-    let field = random.below(15);
+    let field = random.below(16);
     let task = match field {
         9..=13 => 0,
         _ if random.once_in(5) => random.length(0, 63),
@@ -63,7 +64,7 @@ fn value_near_range(state: &State, random: &mut Random, field: u64) -> u64 {
         1 => random.pick(&COUNTS),
         2 | 3 => random.pick(&[0, 1, modulus.saturating_sub(1), modulus, modulus + 1]),
         4 => 1 << random.below(n.min(62) + 2),
-        5 => random.pick(&[0, 1, n.saturating_sub(1), n, n + 1]),
+        5 | 15 => random.pick(&[0, 1, n.saturating_sub(1), n, n + 1]),
         6..=8 | 13 => random.below(3),
         9 => random.below(5),
         10 => random.pick(&[0, 1, n.saturating_sub(1), n, n + 1, 64, 65]),
@@ -85,7 +86,7 @@ fn value_in_range(state: &State, random: &mut Random, field: u64, task: usize) -
         (2 | 3, SYMMETRIC) => random.below(u64::from(state.modulus).max(1)),
         (4, SYMMETRIC) => random.next() & random.next() & (u64::MAX >> (64 - n.min(64))),
         (4, TREE) => random.next() & children(state, task),
-        (5, SYMMETRIC | TREE) => random.below(n),
+        (5, SYMMETRIC | TREE) | (15, SYMMETRIC) => random.below(n),
         (6, FETCH_AND_INCREMENT) | (7, RING) | (8, TREE) => random.below(2),
         (12, FETCH_AND_INCREMENT) => random.below(n + 1),
         (13, FETCH_AND_INCREMENT) => random.below(2),
@@ -110,7 +111,7 @@ pub fn state_in_range(recorder: &mut Recorder, random: &mut Random) {
     accepted_fresh(recorder, random, kind, n);
     let small = !random.once_in(4);
     for task in 0..n {
-        for field in 0..=8 {
+        for field in TASK_FIELDS {
             if field != 1 || !small {
                 any_value(recorder, random, field, task);
             }

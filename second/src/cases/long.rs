@@ -19,7 +19,8 @@ pub fn cases(recorder: &mut Recorder, random: &mut Random) {
 /// Whole runs of many turns, so that large barriers make rounds too.
 fn long_runs(recorder: &mut Recorder, random: &mut Random) {
     run_fresh(recorder, SYMMETRIC, 64, 0, &cycle(64, MOST));
-    run_fresh(recorder, SYMMETRIC, 12, 0, &uniform(random, 12, 8_192));
+    run_fresh(recorder, SYMMETRIC, 12, 0, &uniform(random, 12, 4_096));
+    run_with_starts(recorder, &uniform(random, 64, 64), &shuffles(random, 64, 8_960));
     run_fresh(recorder, FETCH_AND_INCREMENT, 64, 0, &uniform(random, 64, 8_192));
     run_fresh(recorder, FETCH_AND_INCREMENT, 5, 0, &bursts(random, 5, 4_096));
     run_fresh(recorder, RING, 31, 0, &shuffles(random, 31, 8_192));
@@ -35,6 +36,14 @@ fn run_fresh(recorder: &mut Recorder, kind: u8, n: u64, number: u64, schedule: &
     let modulus = if kind == SYMMETRIC { 3 } else { 0 };
     let parents = parents::of_shape(number, if kind == TREE { n as usize } else { 0 });
     recorder.fresh(kind.into(), n, modulus, &parents);
+    recorder.run_all(schedule);
+    recorder.ready();
+    recorder.show();
+}
+
+/// A whole run of a symmetric barrier with these starts.
+fn run_with_starts(recorder: &mut Recorder, starts: &[u8], schedule: &[u8]) {
+    recorder.fresh_starts(starts.len() as u64, starts);
     recorder.run_all(schedule);
     recorder.ready();
     recorder.show();

@@ -1,6 +1,6 @@
 //! Lines that are no requests, of every sort, and the requests that just still are.
 
-use crate::machine::{RING, TREE};
+use crate::machine::{Tables, RING, TREE};
 use crate::recorder::{line, Recorder};
 use crate::requests::MAX_LINE;
 use crate::schedules::{cycle, repeat};
@@ -18,6 +18,10 @@ pub fn cases(recorder: &mut Recorder) {
     buffers(recorder);
     long_schedules(recorder);
     long_tables(recorder);
+    tables_and_lengths(recorder);
+    huge_lengths(recorder);
+    huge_sums(recorder);
+    work_tables(recorder);
     missing_fields(recorder);
     field_types(recorder);
     long_lines(recorder);
@@ -87,14 +91,20 @@ fn largest_numbers(recorder: &mut Recorder) {
         recorder.ask(format!("7 1 {number} 0"));
         recorder.ask(format!("8 {number} 0 0"));
         recorder.ask(format!("8 1 {number} 0"));
+        for before in ["0", "0 2", "0 2 3", "0 2 3 0", "0 2 3 0 0", "0 2 3 0 1 0", "0 1 3 0 1 0"] {
+            recorder.ask(format!("10 {before} {number}"));
+        }
+        recorder.ask(format!("10 {number} 2 3 0 0 0"));
+        recorder.ask(format!("10 0 {number} 3 0 0 0"));
+        recorder.ask(format!("10 0 2 {number} 0 0 0"));
     }
     recorder.show();
 }
 
 /// Requests that there aren't.
 fn unknown_requests(recorder: &mut Recorder) {
-    for request in [0, 10, 11, 15, 255, 256, 257, 259, 1 << 32, u64::MAX] {
-        for numbers in [&[][..], &[0], &[0, 0], &[1, 2, 0], &[2, 2, 0, 0]] {
+    for request in [0, 11, 12, 15, 255, 256, 257, 259, 266, 1 << 32, u64::MAX] {
+        for numbers in [&[][..], &[0], &[0, 0], &[1, 2, 0], &[2, 2, 0, 0], &[2, 2, 0, 0, 0, 0]] {
             recorder.ask(line(&[&[request], numbers].concat(), &[]));
         }
     }
@@ -103,7 +113,7 @@ fn unknown_requests(recorder: &mut Recorder) {
 
 /// Each request with too few numbers, enough and too many.
 fn lengths(recorder: &mut Recorder) {
-    for request in 1..=9 {
+    for request in 1..=10 {
         for length in 0..=7 {
             let numbers = [request, 0, 0, 0, 0, 0, 0, 0];
             recorder.ask(line(&numbers[..=length], &[]));
@@ -124,7 +134,7 @@ fn lengths(recorder: &mut Recorder) {
     recorder.show();
 }
 
-/// Turns and parents of 255 and 256.
+/// Turns, parents and starts of 255 and 256.
 fn entries(recorder: &mut Recorder) {
     for entry in [254, 255, 256, 257, 1 << 32, u64::MAX] {
         recorder.ask(line(&[1, 3, 2, 0, 0, entry], &[]));
@@ -137,6 +147,11 @@ fn entries(recorder: &mut Recorder) {
         recorder.ask(line(&[8, 1, 0, 0, entry], &[]));
         recorder.ask(line(&[8, 1, 1, entry, 0], &[]));
         recorder.ask(line(&[8, 0, 9, entry, 0], &[]));
+        recorder.ask(line(&[10, 3, 2, 0, 2, 0, 0, 0, entry], &[]));
+        recorder.ask(line(&[10, 3, 2, 0, 2, 0, 0, entry, 0], &[]));
+        recorder.ask(line(&[10, 0, 2, 3, 0, 2, 0, 1, entry], &[]));
+        recorder.ask(line(&[10, 0, 2, 3, 0, 2, 0, entry, 1], &[]));
+        recorder.ask(line(&[10, 4, 0, 0, 1, 1, 0, 0, entry], &[]));
     }
     recorder.show();
 }
@@ -166,13 +181,81 @@ fn long_schedules(recorder: &mut Recorder) {
     recorder.show();
 }
 
-/// Parent tables of 4,096 entries and 4,097.
+/// Parent and start tables of 4,096 entries and 4,097.
 fn long_tables(recorder: &mut Recorder) {
     for length in [4_095, 4_096, 4_097, 4_098] {
+        let table = repeat(0, length);
         recorder.fresh(RING.into(), 2, 0, &[]);
         recorder.turn(0);
-        recorder.fresh(TREE.into(), 64, 0, &repeat(0, length));
+        recorder.fresh(TREE.into(), 64, 0, &table);
         recorder.turn(0);
+        recorder.fresh(RING.into(), 2, 0, &[]);
+        recorder.fresh_with(TREE.into(), 64, 0, Tables::of_parents(&table));
+        recorder.turn(0);
+        recorder.fresh(RING.into(), 2, 0, &[]);
+        recorder.fresh_starts(64, &table);
+        recorder.turn(0);
+    }
+    let table = &repeat(0, 4_096)[..];
+    recorder.fresh_with(TREE.into(), 64, 0, Tables { parents: table, starts: table });
+    recorder.show();
+}
+
+/// Request 10 with more and fewer numbers than its lengths say, and just as many.
+fn tables_and_lengths(recorder: &mut Recorder) {
+    for [parents, starts] in [[0, 0], [0, 1], [0, 2], [0, 3], [1, 0], [2, 0], [2, 2], [3, 1]] {
+        for entries in 0..=6 {
+            let numbers = [10, 0, 2, 3, parents, starts, 0];
+            recorder.fresh(RING.into(), 2, 0, &[]);
+            recorder.ask(line(&numbers, &repeat(1, entries)));
+            recorder.ready();
+        }
+    }
+    recorder.fresh(RING.into(), 2, 0, &[]);
+    recorder.ask("10 3 2 0 2 0 0");
+    recorder.ask("10 3 2 0 2 0 0 0");
+    recorder.ask("10 3 2 0 2 0 0 0 0 0");
+    recorder.show();
+    recorder.ask("10 3 2 0 2 0 0 0 0");
+    recorder.show();
+}
+
+/// Request 10 with lengths that its numbers can't have; some are small once they are cut to 32 or
+/// 8 bits.
+fn huge_lengths(recorder: &mut Recorder) {
+    let (half, most) = (1 << 63, u64::MAX);
+    recorder.fresh(RING.into(), 3, 0, &[]);
+    for length in [256, 257, 4_096, 4_097, 65_536, 1 << 32, (1 << 32) + 2, half, most - 1, most] {
+        for entries in 0..=3 {
+            recorder.ask(line(&[10, 0, 2, 3, length, 0, 0], &repeat(0, entries)));
+            recorder.ask(line(&[10, 0, 2, 3, 0, length, 0], &repeat(0, entries)));
+            recorder.ask(line(&[10, 0, 2, 3, 0, 0, length], &repeat(0, entries)));
+            recorder.ask(line(&[10, 0, 2, 3, length, length, length], &repeat(0, entries)));
+        }
+    }
+    recorder.show();
+}
+
+/// Request 10 with lengths whose sum is small once it is cut to 64 bits.
+fn huge_sums(recorder: &mut Recorder) {
+    let (half, most) = (1 << 63, u64::MAX);
+    for lengths in [[half, half, 0], [most, 3, 0], [3, most, 0], [most, 1, 0], [1, most, 0]] {
+        for entries in 0..=3 {
+            let numbers = [&[10, 0, 2, 3][..], &lengths].concat();
+            recorder.ask(line(&numbers, &repeat(0, entries)));
+        }
+    }
+    recorder.show();
+}
+
+/// Request 10 with a work table, of which there is none yet.
+fn work_tables(recorder: &mut Recorder) {
+    recorder.fresh(RING.into(), 3, 0, &[]);
+    for works in [1, 2, 3, 4, 64] {
+        recorder.ask(line(&[10, 0, 2, 3, 0, 0, works], &repeat(1, works as usize)));
+        recorder.ask(line(&[10, 0, 2, 3, 0, 2, works], &repeat(1, works as usize + 2)));
+        recorder.ask(line(&[10, 3, 2, 0, 2, 0, works], &repeat(0, works as usize + 2)));
+        recorder.ask(line(&[10, 0, 2, 3, 0, 2, works, 0, 0], &[]));
     }
     recorder.show();
 }
@@ -191,7 +274,7 @@ fn missing_fields(recorder: &mut Recorder) {
 
 /// Values that a field's type just holds, and one more.
 fn field_types(recorder: &mut Recorder) {
-    for field in 0..=14 {
+    for field in 0..=15 {
         for value in [255, 256, 511, (1 << 32) - 1, 1 << 32, (1 << 32) + 1, u64::MAX] {
             recorder.change(field, 0, value);
         }

@@ -1,10 +1,14 @@
 //! Every field at and beyond the ends of its range, in used and unused fields, in tasks below N
 //! and from N on.
 
-use crate::machine::{SYMMETRIC, TREE};
+use crate::machine::{FETCH_AND_INCREMENT, RING, SYMMETRIC, TREE};
 use crate::parents;
 use crate::recorder::Recorder;
+use crate::requests::TASK_FIELDS;
 use crate::schedules::cycle;
+
+/// The field of request 6 that is a task's start.
+const START: u64 = 15;
 
 pub fn cases(recorder: &mut Recorder) {
     for kind in 0..=3 {
@@ -17,6 +21,8 @@ pub fn cases(recorder: &mut Recorder) {
         another_task(recorder, kind);
     }
     every_kind_for_every_kind(recorder);
+    starts_of_another_kind(recorder);
+    starts_of_fewer_tasks(recorder);
     parents_of_a_running_tree(recorder);
 }
 
@@ -49,7 +55,7 @@ fn shared_fields(recorder: &mut Recorder) {
     }
 }
 
-/// Fields 0 to 8 and the parents of tasks at and around N.
+/// The fields and the parents of tasks at and around N.
 fn task_fields(recorder: &mut Recorder) {
     let n = recorder.n();
     let mut tasks = vec![0, 1, n - 1, n, n + 1, 62, 63];
@@ -57,7 +63,7 @@ fn task_fields(recorder: &mut Recorder) {
     tasks.sort_unstable();
     tasks.dedup();
     for task in tasks {
-        for field in 0..=8 {
+        for field in TASK_FIELDS {
             for value in values(recorder, field, task) {
                 probe(recorder, field, task, value);
             }
@@ -77,6 +83,7 @@ fn values(recorder: &Recorder, field: u64, task: usize) -> Vec<u64> {
         2 | 3 => vec![0, 1, 4, 5, 6, 255],
         4 => lists(n, task),
         5 => vec![0, 1, n - 1, n, n + 1, 63, 64, 255],
+        START => vec![1, n - 1, n, n + 1, 255],
         _ => vec![0, 1, 2, 255],
     }
 }
@@ -92,9 +99,10 @@ fn lists(n: u64, task: usize) -> Vec<u64> {
     vec![0, 1, 2, own, left, right, both, both | own, both | 1, all, beyond, all | beyond, 1 << 63]
 }
 
-/// Asks for the ranges with one field changed. In range, 255 is no task and refused 9.
+/// Asks for the ranges with one field changed. In range, 255 is no task and refused 9. The last
+/// task's fields are held against a run too, and so is the start of the one after it.
 fn probe(recorder: &mut Recorder, field: u64, task: usize, value: u64) {
-    let runs = task + 1 == recorder.n();
+    let runs = task + 1 == recorder.n() || (task == recorder.n() && field == START);
     recorder.with(field, task, value, |recorder| {
         recorder.ready();
         recorder.turn(255);
@@ -132,6 +140,38 @@ fn every_kind_for_every_kind(recorder: &mut Recorder) {
             recorder.show();
         }
     }
+}
+
+/// A symmetric state with starts read as another kind: in range once the starts are 0.
+fn starts_of_another_kind(recorder: &mut Recorder) {
+    for kind in [FETCH_AND_INCREMENT, RING, TREE] {
+        recorder.fresh_starts(2, &[0, 1]);
+        recorder.change(11, 0, 0);
+        recorder.change(9, 0, kind.into());
+        recorder.ready();
+        recorder.turn(0);
+        recorder.run_all(&[0, 1]);
+        recorder.change(START, 1, 0);
+        recorder.ready();
+        recorder.run_all(&[0, 1]);
+        recorder.show();
+    }
+}
+
+/// One task fewer: a start that was the last task is out of range until it is lowered.
+fn starts_of_fewer_tasks(recorder: &mut Recorder) {
+    recorder.fresh_starts(3, &[2, 1, 2]);
+    recorder.change(10, 0, 2);
+    recorder.change(0, 2, 0);
+    recorder.ready();
+    recorder.change(START, 2, 0);
+    recorder.ready();
+    recorder.turn(0);
+    recorder.run_all(&[0, 1]);
+    recorder.change(START, 0, 1);
+    recorder.ready();
+    recorder.run_all(&[0, 0, 0, 1, 1, 0, 0]);
+    recorder.show();
 }
 
 /// Lists are held against the children that the parents give now.

@@ -1,7 +1,7 @@
 //! Every refusal of every call at its boundary, on both sides, and the order of the refusals.
 //! Schedules of 65,536 turns and more stand with the long cases, counts with the limits.
 
-use crate::machine::{FETCH_AND_INCREMENT, RING, SYMMETRIC, TREE};
+use crate::machine::{Tables, FETCH_AND_INCREMENT, RING, SYMMETRIC, TREE};
 use crate::recorder::Recorder;
 use crate::schedules::cycle;
 
@@ -11,6 +11,9 @@ pub fn cases(recorder: &mut Recorder) {
     fresh_moduli(recorder);
     fresh_tables(recorder);
     fresh_order(recorder);
+    fresh_start_lengths(recorder);
+    fresh_start_entries(recorder);
+    fresh_start_order(recorder);
     turns(recorder);
     runs(recorder);
     run_order(recorder);
@@ -117,6 +120,85 @@ fn fresh_order(recorder: &mut Recorder) {
     recorder.fresh(3, 2, 0, &[0, 1, 2]);
     recorder.fresh(2, 2, 0, &[1]);
     recorder.fresh(3, 2, 0, &[1, 1]);
+}
+
+/// A fresh state of any kind that is accepted if its starts are.
+fn fresh_with_starts(recorder: &mut Recorder, kind: u8, n: usize, starts: &[u8]) {
+    let modulus = if kind == SYMMETRIC { 3 } else { 0 };
+    let parents = vec![0; if kind == TREE { n } else { 0 }];
+    let tables = Tables { parents: &parents, starts };
+    recorder.fresh_with(kind.into(), n as u64, modulus, tables);
+}
+
+/// 12 of a fresh state: the length of the start table, for every kind.
+fn fresh_start_lengths(recorder: &mut Recorder) {
+    for kind in [SYMMETRIC, FETCH_AND_INCREMENT, RING, TREE] {
+        for n in [1, 2, 3, 63, 64] {
+            for length in [0, 1, n - 1, n, n + 1, 256, 256 + n] {
+                fresh_with_starts(recorder, kind, n, &vec![0; length]);
+                recorder.ready();
+            }
+        }
+    }
+    recorder.show();
+}
+
+/// 12 of a fresh state: the entries of the start table, for every kind.
+fn fresh_start_entries(recorder: &mut Recorder) {
+    for kind in [SYMMETRIC, FETCH_AND_INCREMENT, RING, TREE] {
+        for n in [1_usize, 2, 3, 63, 64] {
+            for task in [0, n / 2, n - 1] {
+                fresh_start(recorder, kind, n, task);
+            }
+        }
+    }
+    fresh_with_starts(recorder, SYMMETRIC, 5, &[4, 0, 3, 2, 4]);
+    recorder.show();
+    fresh_with_starts(recorder, SYMMETRIC, 5, &[4, 0, 3, 5, 4]);
+    recorder.show();
+}
+
+/// Each value near N as one task's start.
+fn fresh_start(recorder: &mut Recorder, kind: u8, n: usize, task: usize) {
+    for start in [0, n - 1, n, n + 1, 255] {
+        let mut starts = vec![0; n];
+        starts[task] = start as u8;
+        fresh_with_starts(recorder, kind, n, &starts);
+        recorder.ready();
+    }
+}
+
+/// The order of 2 to 6 and 12 where two or more apply, and 12 alone beside good parents.
+fn fresh_start_order(recorder: &mut Recorder) {
+    for (kind, n, modulus, parents, starts) in [
+        (4, 2, 0, &[][..], &[9][..]),
+        (4, 0, 2, &[1], &[9]),
+        (0, 0, 3, &[], &[0]),
+        (0, 65, 3, &[], &[64; 65]),
+        (0, 65, 3, &[], &[65; 65]),
+        (2, 0, 0, &[], &[0]),
+        (0, 2, 2, &[], &[0]),
+        (0, 2, 256, &[], &[0, 2]),
+        (1, 2, 3, &[], &[0, 0]),
+        (3, 2, 3, &[0, 0], &[0, 0]),
+        (0, 2, 3, &[0], &[0]),
+        (0, 2, 3, &[0, 0], &[0, 2]),
+        (1, 2, 0, &[0], &[0, 0]),
+        (2, 2, 0, &[0, 0], &[0, 0]),
+        (3, 2, 0, &[0], &[0, 0]),
+        (3, 2, 0, &[0, 0, 0], &[9]),
+        (3, 2, 0, &[], &[0, 0]),
+        (3, 2, 0, &[0, 1], &[0, 0]),
+        (3, 2, 0, &[1, 0], &[9]),
+        (3, 2, 0, &[0, 0], &[0, 0]),
+        (3, 2, 0, &[0, 0], &[0]),
+        (3, 2, 0, &[0, 0], &[9]),
+        (3, 2, 0, &[0, 0], &[]),
+    ] {
+        recorder.fresh_with(kind, n, modulus, Tables { parents, starts });
+        recorder.ready();
+    }
+    recorder.show();
 }
 
 /// 7 and 9 of a turn.

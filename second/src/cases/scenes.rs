@@ -2,9 +2,9 @@
 
 use super::calls::{any_first_pass, any_passes, any_shape, misspelt};
 use super::damage::{damage, damage_for_a_while, near_the_limit, state_in_range};
-use super::steps::{accepted_fresh, any_run, turn_of_ready, turn_of_someone};
-use super::values::{any_task_count, near, near_length, TASK_COUNTS};
-use crate::parents;
+use super::fresh::{accepted_fresh, any_fresh};
+use super::steps::{any_run, turn_of_ready, turn_of_someone};
+use super::values::{any_task_count, near_length, TASK_COUNTS};
 use crate::passes::Passes;
 use crate::random::Random;
 use crate::recorder::Recorder;
@@ -30,7 +30,7 @@ pub fn stored_runs(recorder: &mut Recorder, random: &mut Random) {
 
 /// Scenes of every sort.
 pub fn stored_scenes(recorder: &mut Recorder, random: &mut Random) {
-    for _ in 0..300 {
+    for _ in 0..280 {
         scene(recorder, random);
     }
 }
@@ -121,26 +121,6 @@ fn many_turns(recorder: &mut Recorder, random: &mut Random) {
         } else {
             recorder.turn(random.below(n as u64));
         }
-    }
-    recorder.show();
-}
-
-/// A fresh state that may be refused.
-fn any_fresh(recorder: &mut Recorder, random: &mut Random) {
-    for _ in 0..random.length(1, 8) {
-        let kind = random.below(5);
-        let n = if random.once_in(3) { near(random) } else { random.below(7) };
-        let fits = if kind == 0 { 3 } else { 0 };
-        let modulus = if random.once_in(3) { near(random) } else { fits };
-        let fits = if kind == 3 { n.min(65) as usize } else { 0 };
-        let length = if random.once_in(3) { random.length(0, 5) } else { fits };
-        let mut parents = parents::any(random, length);
-        if length > 0 && random.once_in(2) {
-            let task = random.length(0, length - 1);
-            parents[task] = random.pick(&[0, 1, 2, task as u8, task as u8 + 1, 64, 255]);
-        }
-        recorder.fresh(kind, n, modulus, &parents);
-        recorder.ready();
     }
     recorder.show();
 }

@@ -1,24 +1,10 @@
-//! Random requests that several parts of the cases make: fresh states, single turns and runs.
+//! Random requests that several parts of the cases make: single turns and runs.
 
 use super::values::{near, near_length, spoil};
-use crate::machine::{ready, SYMMETRIC, TREE};
-use crate::parents;
+use crate::machine::ready;
 use crate::random::Random;
 use crate::recorder::Recorder;
 use crate::schedules;
-
-/// A fresh state that is accepted.
-pub fn accepted_fresh(recorder: &mut Recorder, random: &mut Random, kind: u8, n: usize) {
-    let modulus = match kind {
-        SYMMETRIC => random.pick(&[3, 3, 4, 5, 7, 254, 255]),
-        _ => 0,
-    };
-    let parents = match kind {
-        TREE => parents::any(random, n),
-        _ => Vec::new(),
-    };
-    recorder.fresh(kind.into(), n as u64, modulus, &parents);
-}
 
 /// A single turn, most often of a task.
 pub fn turn_of_someone(recorder: &mut Recorder, random: &mut Random) {

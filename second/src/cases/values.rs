@@ -7,7 +7,8 @@ use crate::random::Random;
 pub const TASK_COUNTS: [usize; 9] = [1, 2, 3, 5, 8, 12, 31, 63, 64];
 
 /// Numbers around the ends of the ranges.
-const NEAR: [u64; 18] = [0, 1, 2, 3, 4, 5, 10, 11, 18, 19, 62, 63, 64, 65, 254, 255, 256, 257];
+const NEAR: [u64; 20] =
+    [0, 1, 2, 3, 4, 5, 10, 11, 15, 16, 18, 19, 62, 63, 64, 65, 254, 255, 256, 257];
 
 /// A number around the end of a range, or the largest of all.
 pub fn near(random: &mut Random) -> u64 {

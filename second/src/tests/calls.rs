@@ -1,7 +1,7 @@
 //! The calls held against plain definitions: runs against single turns, passes and first passes
 //! against every cutting, shapes against their children.
 
-use super::begin;
+use super::{all_rows, begin, begin_starts};
 use crate::machine::{run, turn, Outcome, Report, State};
 use crate::passes::{first_pass, passes};
 use crate::random::Random;
@@ -32,6 +32,9 @@ fn runs_are_turns() {
         let mut parents = vec![0; if kind == 3 { n } else { 0 }];
         let _ = shape(random.below(4), parents.len() as u64, &mut parents);
         let mut state = begin(kind, n as u64, modulus, &parents);
+        if kind == 0 && round % 8 == 0 {
+            state = begin_starts(modulus, &schedules::uniform(&mut random, n, n));
+        }
         let mut other = state;
         let schedule = schedules::any(&mut random, n, 300);
         let made = random.length(0, 300);
@@ -62,18 +65,6 @@ fn most_stretches(n: usize, schedule: &[u8]) -> Option<usize> {
     best[schedule.len()]
 }
 
-/// All schedules of a length for n tasks.
-fn all_schedules(n: usize, length: u32) -> impl Iterator<Item = Vec<u8>> {
-    (0..n.pow(length)).map(move |mut code| {
-        let digit = |_| {
-            let task = (code % n) as u8;
-            code /= n;
-            task
-        };
-        (0..length).map(digit).collect()
-    })
-}
-
 /// The pairs are whole passes, end to end, each as short as can be.
 fn check_passes(n: usize, schedule: &[u8]) {
     let mut pairs = vec![u32::MAX; 2 * schedule.len() + 2];
@@ -95,7 +86,7 @@ fn check_passes(n: usize, schedule: &[u8]) {
 fn passes_of_all_short_schedules() {
     for (n, longest) in [(1, 6), (2, 10), (3, 8), (4, 6)] {
         for length in 0..=longest {
-            for schedule in all_schedules(n, length) {
+            for schedule in all_rows(n, length) {
                 check_passes(n, &schedule);
             }
         }
@@ -116,7 +107,7 @@ fn plain_first_pass(n: usize, schedule: &[u8], place: usize) -> &[u8] {
 #[test]
 fn first_passes_of_all_short_schedules() {
     for n in 1..=3 {
-        for schedule in all_schedules(4, 6) {
+        for schedule in all_rows(4, 6) {
             for place in 0..=6 {
                 let expected = plain_first_pass(n, &schedule, place);
                 assert_eq!(first_pass(n as u64, &schedule, place as u64), expected);

@@ -2,7 +2,8 @@
 //! the counts differ by at most one, a task at 11 isn't ahead, somebody can move, and a few
 //! passes raise the least count.
 
-use super::begin;
+use super::starts::nearest;
+use super::{all_rows, begin, begin_starts};
 use crate::machine::{in_range, ready, step, turn, Outcome, State};
 use crate::machine::{FETCH_AND_INCREMENT, RING, SYMMETRIC, TREE};
 use std::collections::HashSet;
@@ -79,8 +80,8 @@ fn check_progress(mut state: State) {
     assert!(least_count(&state) > before, "{state:?}");
 }
 
-/// The state after a turn. A wait changes nothing; a move leaves the other tasks' lines, counts
-/// and lists alone.
+/// The state after a turn. A wait changes nothing; a move leaves every start and the other tasks'
+/// lines, counts and lists alone.
 fn turned(state: State, task: usize) -> State {
     let mut next = state;
     let outcome = turn(&mut next, task as u64);
@@ -90,13 +91,25 @@ fn turned(state: State, task: usize) -> State {
         return next;
     }
     assert!(next.tasks[task].line != state.tasks[task].line || next.tasks[task].line == 18);
+    check_look(&state, &next, task);
+    assert_eq!(next.tasks[task].start, state.tasks[task].start);
     for other in (0..64).filter(|&other| other != task) {
         let (before, after) = (&state.tasks[other], &next.tasks[other]);
         assert_eq!((before.line, before.count), (after.line, after.count));
         assert_eq!((before.list, before.looked), (after.list, after.looked));
+        assert_eq!(before.start, after.start);
         assert_eq!((before.tag, before.old, before.aim), (after.tag, after.old, after.aim));
     }
     next
+}
+
+/// Line 13 of the symmetric barrier takes the listed task that is nearest to the start.
+fn check_look(before: &State, after: &State, task: usize) {
+    let own = &before.tasks[task];
+    if before.kind == SYMMETRIC && own.line == 13 && own.list != 0 {
+        let expected = nearest(before.n.into(), own.start, own.list);
+        assert_eq!(Some(after.tasks[task].looked), expected, "{before:?}");
+    }
 }
 
 #[test]
@@ -104,6 +117,17 @@ fn symmetric() {
     for (n, modulus) in [(1, 3), (1, 4), (2, 3), (2, 4), (2, 5), (3, 3), (3, 4), (4, 3)] {
         assert!(visit(begin(SYMMETRIC, n, modulus, &[])) > 4);
     }
+}
+
+#[test]
+fn symmetric_with_starts() {
+    for (n, modulus) in [(2, 3), (2, 4), (2, 5), (3, 3)] {
+        for starts in all_rows(n, n as u32) {
+            assert!(visit(begin_starts(modulus, &starts)) > 4);
+        }
+    }
+    assert!(visit(begin_starts(4, &[1, 2, 0])) > 4);
+    assert!(visit(begin_starts(3, &[1, 2, 3, 0])) > 4);
 }
 
 #[test]

@@ -1,9 +1,9 @@
 //! The refusals: their order, their boundaries, and that a refused call changes nothing.
 
-use super::{begin, fresh_number, number};
+use super::{begin, begin_starts, fresh_number, number, starts_number};
 use crate::machine::{
-    fresh, in_range, ready, run, turn, Ending, Outcome, State, FETCH_AND_INCREMENT, MAX_COUNT,
-    RING, SYMMETRIC, TREE,
+    fresh, in_range, ready, run, turn, Ending, Outcome, State, Tables, FETCH_AND_INCREMENT,
+    MAX_COUNT, RING, SYMMETRIC, TREE,
 };
 use crate::passes::{first_pass, passes};
 use crate::refusal::Refusal;
@@ -33,9 +33,57 @@ fn order_of_a_fresh_state() {
 }
 
 #[test]
+fn starts_come_after_the_other_tables() {
+    assert_eq!(starts_number(4, 2, 0, &[], &[9]), 2);
+    assert_eq!(starts_number(0, 0, 3, &[], &[9]), 3);
+    assert_eq!(starts_number(0, 65, 3, &[], &[65; 65]), 3);
+    assert_eq!(starts_number(0, 2, 2, &[], &[9]), 4);
+    assert_eq!(starts_number(1, 2, 3, &[], &[0, 0]), 4);
+    assert_eq!(starts_number(0, 2, 3, &[0], &[9]), 5);
+    assert_eq!(starts_number(3, 2, 0, &[0], &[0, 0]), 5);
+    assert_eq!(starts_number(3, 2, 0, &[0, 1], &[0, 0]), 6);
+    assert_eq!(starts_number(3, 2, 0, &[0, 0], &[0, 0]), 12);
+    assert_eq!(starts_number(3, 2, 0, &[0, 0], &[]), 0);
+}
+
+#[test]
+fn lengths_of_start_tables() {
+    for n in [1_usize, 2, 63, 64] {
+        for length in [0, 1, n - 1, n, n + 1, 256 + n] {
+            let starts = vec![0; length];
+            let fits = if length == 0 || length == n { 0 } else { 12 };
+            assert_eq!(starts_number(0, n as u64, 3, &[], &starts), fits);
+            let empty = if length == 0 { 0 } else { 12 };
+            assert_eq!(starts_number(1, n as u64, 0, &[], &starts), empty);
+            assert_eq!(starts_number(2, n as u64, 0, &[], &starts), empty);
+            assert_eq!(starts_number(3, n as u64, 0, &vec![0; n], &starts), empty);
+        }
+    }
+}
+
+#[test]
+fn entries_of_start_tables() {
+    for n in [1, 2, 63, 64] {
+        for task in [0, n - 1] {
+            let mut starts = vec![0; n];
+            starts[task] = n as u8 - 1;
+            assert_eq!(starts_number(0, n as u64, 3, &[], &starts), 0);
+            for start in [n as u8, n as u8 + 1, 255] {
+                starts[task] = start;
+                assert_eq!(starts_number(0, n as u64, 3, &[], &starts), 12);
+            }
+        }
+    }
+}
+
+#[test]
 fn refused_fresh_state_is_zero() {
     let mut state = three(FETCH_AND_INCREMENT);
-    assert_eq!(fresh(&mut state, 1, 3, 1, &[]), Err(Refusal::Modulus));
+    assert_eq!(fresh(&mut state, 1, 3, 1, Tables::of_parents(&[])), Err(Refusal::Modulus));
+    assert_eq!(state, State::ZERO);
+    let mut state = begin_starts(3, &[2, 1, 0]);
+    let tables = Tables { parents: &[], starts: &[2, 1, 3] };
+    assert_eq!(fresh(&mut state, 0, 3, 3, tables), Err(Refusal::Starts));
     assert_eq!(state, State::ZERO);
 }
 
@@ -174,11 +222,11 @@ fn check_highest(state: State, set: impl Fn(&mut State, u8), highest: u8) {
 
 #[test]
 fn ranges_of_the_fields() {
-    for (kind, [tag, old, looked, aim, toggle, flag]) in [
-        (SYMMETRIC, [4, 4, 2, 0, 0, 0]),
-        (FETCH_AND_INCREMENT, [0, 0, 0, 1, 0, 0]),
-        (RING, [0, 0, 0, 0, 1, 0]),
-        (TREE, [0, 0, 2, 0, 0, 1]),
+    for (kind, [tag, old, looked, aim, toggle, flag, start]) in [
+        (SYMMETRIC, [4, 4, 2, 0, 0, 0, 2]),
+        (FETCH_AND_INCREMENT, [0, 0, 0, 1, 0, 0, 0]),
+        (RING, [0, 0, 0, 0, 1, 0, 0]),
+        (TREE, [0, 0, 2, 0, 0, 1, 0]),
     ] {
         let state = three(kind);
         for task in 0..64 {
@@ -189,6 +237,7 @@ fn ranges_of_the_fields() {
             check_highest(state, |state, value| state.tasks[task].aim = value, used(aim));
             check_highest(state, |state, value| state.tasks[task].toggle = value, used(toggle));
             check_highest(state, |state, value| state.tasks[task].flag = value, used(flag));
+            check_highest(state, |state, value| state.tasks[task].start = value, used(start));
         }
         let fetches = kind == FETCH_AND_INCREMENT;
         let (arrivals, sense) = if fetches { (3, 1) } else { (0, 0) };
@@ -239,6 +288,18 @@ fn ranges_of_lists() {
     let mut widest = begin(SYMMETRIC, 64, 3, &[]);
     widest.tasks[63].list = u64::MAX;
     assert!(in_range(&widest));
+}
+
+#[test]
+fn start_out_of_range() {
+    let mut state = begin_starts(3, &[2, 1, 0]);
+    state.tasks[1].start = 3;
+    let before = state;
+    assert_eq!(turn(&mut state, 0), Err(Refusal::Range));
+    assert_eq!(ready(&state), Err(Refusal::Range));
+    let report = run(&mut state, &[0], 1, &mut [255; 2]);
+    assert_eq!(report.ending, Ending::Refused(Refusal::Range));
+    assert_eq!(state, before);
 }
 
 #[test]

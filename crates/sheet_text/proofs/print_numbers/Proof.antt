@@ -1,6 +1,6 @@
 -- `print_numbers` meets its contract: the bytes of the numbers are refused, or run, as the numbers are.
 use mathlib.Core.Path.{_≡_, sym, ap, _∙_}
-use mathlib.Core.List.{List, _++_, map}
+use mathlib.Core.List.{List, [], _++_, map}
 use mathlib.Core.Logic.{_≢_}
 use Prim.Native.Nat.{ℕ, _-_, min, _≤_}
 use native.Mathlib.Omega.{arith}
@@ -8,7 +8,7 @@ use borrow.Author.Needs.{needs}
 use lib.ListN.{length, take, drop, getD, replicate, length-drop, length-map, length-replicate}
 use lib.Seq.{take-all, length-take-le}
 use Rattle.machine.specs.declared.Fresh.{Fresh}
-use Rattle.machine.specs.Fresh.{freshReason, freshOf}
+use Rattle.machine.specs.Fresh.{inputsOf, freshReason, freshOf}
 use Rattle.machine.specs.FreshLaws.{fresh-reason, fresh-accepted, fresh-valid}
 use Rattle.machine.specs.Range.{Valid}
 use Rattle.sheet_text.specs.Read.{Five, parentCount, fiveOf, readNumbers}
@@ -86,8 +86,8 @@ filled c = rw (rest (ns (start c)) (start c .pre .0)) at (c .bytes2 .ensures)
 abbrev written : tie.After-parent-count → tie.After-bytes2
 written c = c .before .before
 
-slice-aggregate-fresh : tie.Need-slice-aggregate-fresh
-slice-aggregate-fresh c =
+slice-aggregate-fresh-state : tie.Need-slice-aggregate-fresh-state
+slice-aggregate-fresh-state c =
     let p = c .before in
     let y = written p in
     sym (length-take-le (p .parent-count .result) (buffer y)
@@ -95,22 +95,22 @@ slice-aggregate-fresh c =
 
 -- ---- the fresh state, and the turns that are run
 
-abbrev counted : tie.After-fresh → tie.After-parent-count
+abbrev counted : tie.After-fresh-state → tie.After-parent-count
 counted c = c .before .before
 
-abbrev begun : tie.After-fresh → tie.Start
+abbrev begun : tie.After-fresh-state → tie.Start
 begun c = start (written (counted c))
 
-made : (c : tie.After-fresh) → c .fresh .result ≡ freshOf (lowInputs (said (ns (begun c)) .inputs))
+made : (c : tie.After-fresh-state) → c .fresh-state .result ≡ freshOf (lowInputs (said (ns (begun c)) .inputs))
 made c =
     let p = counted c in
     let y = written p in
     let s = begun c in
-    c .fresh .ensures
-    ∙ ap (λ (ps : List ℕ). freshOf (record { kind = getD (ns s) 0 0; n = getD (ns s) 1 0; modulus = getD (ns s) 2 0; parents = ps }))
+    c .fresh-state .ensures
+    ∙ ap (λ (ps : List ℕ). freshOf (inputsOf (record { kind = getD (ns s) 0 0; n = getD (ns s) 1 0; modulus = getD (ns s) 2 0 }) ps []))
     (parents (ns s) (s .pre .0) (buffer y) _ (p .parent-count .result) (filled y) (p .parent-count .ensures))
 
-turned : (c : tie.After-fresh) → let k = counted c .parent-count .result in
+turned : (c : tie.After-fresh-state) → let k = counted c .parent-count .result in
     take (length (ns (begun c)) - 3 - k) (drop k (buffer (written (counted c)))) ≡ map low (said (ns (begun c)) .schedule)
 turned c =
     let p = counted c in
@@ -127,7 +127,7 @@ returns : tie.Need-returns
 returns c =
     let f = c .before .before .before in
     let s = begun f in
-    rw (refused (ns s) (s .pre .0) (f .fresh .result) (made f) (c .before .before .if1 .taken)) (c .refusal .ensures)
+    rw (refused (ns s) (s .pre .0) (f .fresh-state .result) (made f) (c .before .before .if1 .taken)) (c .refusal .ensures)
 
 print-run-requires : tie.Need-print-run-requires
 print-run-requires c κs =
@@ -135,7 +135,7 @@ print-run-requires c κs =
     let f = e .before in
     let s = begun f in
     let d : ℕ = parentCount (getD (ns s) 0 0) (getD (ns s) 1 0) in (
-      valid (ns s) (s .pre .0) (f .fresh .result) (made f) (e .if1 .left),
+      valid (ns s) (s .pre .0) (f .fresh-state .result) (made f) (e .if1 .left),
       rw (turned f, length-map (drop d (drop 3 (ns s))) low, length-drop d (drop 3 (ns s)), length-drop 3 (ns s)) (omega (arith, s .pre .1)),
     )
 
@@ -144,9 +144,9 @@ returns-2 c =
     let e = accepting (c .before) in
     let f = e .before in
     let s = begun f in
-    rw (accepted (ns s) (s .pre .0) (f .fresh .result) (made f) (e .if1 .left) _ (turned f)) (c .print-run .ensures)
+    rw (accepted (ns s) (s .pre .0) (f .fresh-state .result) (made f) (e .if1 .left) _ (turned f)) (c .print-run .ensures)
 
 pub print-numbers-spec : {M : Type 1} → statement M
 print-numbers-spec =
     tie.close
-    (tie.spec (λ c. search needs) cast-kind (λ c. search needs) cast-n (λ c. search needs) cast-modulus (λ c. search needs) (λ c. search needs) (λ c. search needs) (λ c. search needs) (λ c κs. search needs) (λ c. search needs) (λ c κs. search needs) (λ c. search needs) slice-aggregate-fresh (λ c κs. search needs) (λ c. search needs) (λ c κs. search needs) returns (λ c. search needs) (λ c. search needs) (λ c. search needs) print-run-requires returns-2)
+    (tie.spec (λ c. search needs) cast-kind (λ c. search needs) cast-n (λ c. search needs) cast-modulus (λ c. search needs) (λ c. search needs) (λ c. search needs) (λ c. search needs) (λ c κs. search needs) (λ c. search needs) (λ c κs. search needs) (λ c. search needs) slice-aggregate-fresh-state (λ c κs. search needs) (λ c. search needs) (λ c κs. search needs) returns (λ c. search needs) (λ c. search needs) (λ c. search needs) print-run-requires returns-2)

@@ -4,7 +4,7 @@ use Rattle.lines.proofs.symmetric.line13.Statement.{statement}
 use Rattle.lines.proofs.symmetric.line13.Tie as tie
 
 returns : tie.Need-returns
-returns c = rw (c .before .least .ensures) at (c .choose .ensures)
+returns c = rw (c .before .first .ensures) at (c .choose .ensures)
 
 pub line13-spec : {M : Type 1} → statement M
 line13-spec =

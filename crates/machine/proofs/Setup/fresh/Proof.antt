@@ -21,18 +21,18 @@ modulus-fits : (b : Bool) (r : ℕ) → pick b (leb 3 r && leb r 255) (eqb r 0) 
 modulus-fits true r e = leb-true r 255 (and-eq-true-iff (leb 3 r) (leb r 255) .0 e .1)
 modulus-fits false r e = omega (arith, eqb-true r 0 e)
 
-table-fits : (b z : Bool) (n : ℕ) (parents : List ℕ) → n ≤ 64 → eqb (length parents) 0 ≡ z → pick b (checkOf parents n) (pick z 0 5) ≡ 0 → length parents ≤ 64
-table-fits true z n parents h ez e = omega (arith, accepted parents n e .long)
-table-fits false true n parents h ez e = omega (arith, eqb-true (length parents) 0 ez)
-table-fits false false n parents h ez e = absurd (omega arith)
+parents-fit : (b z : Bool) (n : ℕ) (parents : List ℕ) → n ≤ 64 → eqb (length parents) 0 ≡ z → pick b (checkOf parents n) (pick z 0 5) ≡ 0 → length parents ≤ 64
+parents-fit true z n parents h ez e = omega (arith, accepted parents n e .long)
+parents-fit false true n parents h ez e = omega (arith, eqb-true (length parents) 0 ez)
+parents-fit false false n parents h ez e = absurd (omega arith)
 
 -- ---- a call that is accepted, and what fits its state's fields
 
 abbrev start : tie.Else1 → tie.Start
-start c = c .before .before .before
+start c = c .before .before .before .before
 
 abbrev inputs : tie.Else1 → Inputs
-inputs c = inputsOf (start c .args .self) (start c .args .parents .now)
+inputs c = inputsOf (start c .args .self) (start c .args .parents .now) (start c .args .starts .now)
 
 accepts : (c : tie.Else1) → Accepted (inputs c)
 accepts c = accepted-inputs (inputs c) (sym (c .before .reason .ensures) ∙ c .if1 .left)
@@ -47,19 +47,19 @@ unfolding freshOf
 returns c = rw (← c .before .before .reason .ensures, ne-eqb _ 0 (c .before .if1 .taken), c .zero-state .ensures)
 
 padded-requires : tie.Need-padded-requires
-padded-requires c κs = table-fits (eqb (inputs c .kind) 3) _ (inputs c .n) (inputs c .parents) (accepts c .few) refl (accepts c .table)
+padded-requires c κs = parents-fit (eqb (inputs c .kind) 3) _ (inputs c .n) (inputs c .parents) (accepts c .few) refl (accepts c .parents)
 
 fresh-tasks-requires : tie.Need-fresh-tasks-requires
 fresh-tasks-requires c κs = accepts (c .before) .few
 
-cast-t9 : tie.Need-cast-t9
-cast-t9 c = omega (arith, accepts (filled c) .kind)
-
 cast-t10 : tie.Need-cast-t10
-cast-t10 c = omega (arith, accepts (filled (c .before)) .few)
+cast-t10 c = omega (arith, accepts (filled c) .kind)
 
 cast-t11 : tie.Need-cast-t11
-cast-t11 c =
+cast-t11 c = omega (arith, accepts (filled (c .before)) .few)
+
+cast-t12 : tie.Need-cast-t12
+cast-t12 c =
     let e = filled (c .before .before) in
     omega (arith, modulus-fits (eqb (inputs e .kind) 0) (inputs e .modulus) (accepts e .modulus))
 
@@ -73,5 +73,5 @@ returns-2 c =
 pub fresh-spec : {M : Type 1} → statement M
 fresh-spec =
     tie.close
-    (tie.spec (λ c κs. search needs) (λ c κs. search needs) returns padded-requires fresh-tasks-requires cast-t9
-    cast-t10 cast-t11 (λ c κs. search needs) returns-2)
+    (tie.spec (λ c κs. search needs) (λ c κs. search needs) returns padded-requires fresh-tasks-requires cast-t10
+    cast-t11 cast-t12 (λ c κs. search needs) returns-2)

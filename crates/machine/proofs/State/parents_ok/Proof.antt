@@ -32,16 +32,16 @@ long c = parents-64 (start c .args .self) _ (start c .good .0)
 table-there : (c : tie.After-table-length) → c .table-length .result ≤ length (start (c .before) .args .self .parents)
 table-there c = omega (arith, c .table-length .ensures, long (c .before))
 
-abbrev measured : tie.After-all-zero2 → tie.After-table-length
+abbrev measured : tie.After-all-below2 → tie.After-table-length
 measured c = c .before .before .before
 
 -- ---- the needs
 
 returns : tie.Need-returns
-returns c = rw (ne-eqb _ 3 (c .before .before .if1 .taken)) (c .all-zero .ensures)
+returns c = rw (ne-eqb _ 3 (c .before .before .if1 .taken)) (c .all-below .ensures)
 
-part-all-zero-end : tie.Need-part-all-zero-end
-part-all-zero-end c = omega (arith, long (c .before .before))
+part-all-below-end : tie.Need-part-all-below-end
+part-all-below-end c = omega (arith, long (c .before .before))
 
 array-share-prefix-parents : tie.Need-array-share-prefix-parents
 array-share-prefix-parents c = table-there (measured c)
@@ -55,11 +55,11 @@ returns-2 c =
     let t = measured z in
     let e = t .before in
     tabled (start e .args .self) (t .table-length .result) _ _ _ (long e) (e .if1 .left) (t .table-length .ensures)
-    (c .before .check .ensures) (c .accepted .ensures) (z .all-zero2 .ensures)
+    (c .before .check .ensures) (c .accepted .ensures) (z .all-below2 .ensures)
 
 pub parents-ok-spec : {M : Type 1} → statement M
 parents-ok-spec =
     tie.close
     (tie.spec (λ c. search needs) (λ c κs. search needs) returns (λ c κs. search needs) (λ c. search needs)
-    (λ c. search needs) part-all-zero-end (λ c κs. search needs) array-share-prefix-parents slice-aggregate-check
+    (λ c. search needs) part-all-below-end (λ c κs. search needs) array-share-prefix-parents slice-aggregate-check
     (λ c. search needs) (λ c κs. search needs) (λ c κs. search needs) returns-2)

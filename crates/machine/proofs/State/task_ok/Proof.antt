@@ -7,7 +7,7 @@ use Rattle.machine.proofs.State.task_ok.Tie as tie
 returns : tie.Need-returns
 unfolding taskOk
 returns c =
-    let w = c .before .before .before in
+    let w = c .before .before .before .before in
     let l = w .before in
     let f = l .before .before .before in
     rw (
@@ -17,9 +17,10 @@ returns c =
       l .before .field-ok3 .ensures,
       w .within .ensures,
       l .list-room .ensures,
-      c .before .before .field-ok4 .ensures,
-      c .before .field-ok5 .ensures,
-      c .field-ok6 .ensures,
+      c .before .before .before .field-ok4 .ensures,
+      c .before .before .field-ok5 .ensures,
+      c .before .field-ok6 .ensures,
+      c .field-ok7 .ensures,
     )
 
 pub task-ok-spec : {M : Type 1} → statement M
@@ -27,4 +28,4 @@ task-ok-spec =
     tie.close
     (tie.spec (λ c. search needs) (λ c. search needs) (λ c κs. search needs) (λ c κs. search needs)
     (λ c κs. search needs) (λ c κs. search needs) (λ c κs. search needs) (λ c κs. search needs) (λ c κs. search needs)
-    (λ c κs. search needs) (λ c κs. search needs) returns)
+    (λ c κs. search needs) (λ c κs. search needs) (λ c κs. search needs) returns)

@@ -1,0 +1,75 @@
+//! Random fresh states: accepted ones, and ones that may be refused.
+
+use super::values::{near, near_length};
+use crate::machine::{Tables, SYMMETRIC, TREE};
+use crate::parents;
+use crate::random::Random;
+use crate::recorder::Recorder;
+use crate::schedules::uniform;
+use crate::starts;
+
+/// A fresh state that is accepted, by request 10 where it has starts, and now and then elsewhere.
+pub fn accepted_fresh(recorder: &mut Recorder, random: &mut Random, kind: u8, n: usize) {
+    let modulus = match kind {
+        SYMMETRIC => random.pick(&[3, 3, 4, 5, 7, 254, 255]),
+        _ => 0,
+    };
+    let parents = match kind {
+        TREE => parents::any(random, n),
+        _ => Vec::new(),
+    };
+    let starts = match kind {
+        SYMMETRIC => starts::any(random, n),
+        _ => Vec::new(),
+    };
+    if starts.is_empty() && !random.once_in(4) {
+        recorder.fresh(kind.into(), n as u64, modulus, &parents);
+    } else {
+        let tables = Tables { parents: &parents, starts: &starts };
+        recorder.fresh_with(kind.into(), n as u64, modulus, tables);
+    }
+}
+
+/// Fresh states that may be refused.
+pub fn any_fresh(recorder: &mut Recorder, random: &mut Random) {
+    for _ in 0..random.length(1, 8) {
+        let kind = random.below(5);
+        let n = if random.once_in(3) { near(random) } else { random.below(7) };
+        let fits = if kind == 0 { 3 } else { 0 };
+        let modulus = if random.once_in(3) { near(random) } else { fits };
+        let parents = any_parents(random, kind, n);
+        if random.once_in(2) {
+            recorder.fresh(kind, n, modulus, &parents);
+        } else {
+            let starts = any_starts(random, kind, n);
+            recorder.fresh_with(kind, n, modulus, Tables { parents: &parents, starts: &starts });
+        }
+        recorder.ready();
+    }
+    recorder.show();
+}
+
+/// A parent table whose length or one of whose entries may be wrong.
+fn any_parents(random: &mut Random, kind: u64, n: u64) -> Vec<u8> {
+    let fits = if kind == 3 { n.min(65) as usize } else { 0 };
+    let length = if random.once_in(3) { random.length(0, 5) } else { fits };
+    let mut parents = parents::any(random, length);
+    if length > 0 && random.once_in(2) {
+        let task = random.length(0, length - 1);
+        parents[task] = random.pick(&[0, 1, 2, task as u8, task as u8 + 1, 64, 255]);
+    }
+    parents
+}
+
+/// A start table whose length or one of whose entries may be wrong.
+fn any_starts(random: &mut Random, kind: u64, n: u64) -> Vec<u8> {
+    let fits = if kind == 0 { n.min(65) } else { 0 };
+    let length = if random.once_in(6) { n.min(65) } else { near_length(random, fits) } as usize;
+    let n = n.clamp(1, 64) as u8;
+    let mut starts = uniform(random, n.into(), length);
+    if length > 0 && random.once_in(2) {
+        let task = random.length(0, length - 1);
+        starts[task] = random.pick(&[0, n - 1, n, n + 1, 64, 255]);
+    }
+    starts
+}
