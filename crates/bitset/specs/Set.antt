@@ -28,9 +28,12 @@ leastOf list = trailingZeros 64 list
 abbrev pub fromOf : ℕ → ℕ → ℕ
 fromOf list k = list / 2 ^ k * 2 ^ k
 
--- 02, P1: "the first listed task at or above the start, going round to 0 after the last"; 64 for the empty set
+-- 02, P1: "the first listed task at or above the start, going round to 0 after the last"; 64 for the empty set. A start is a task of 0 to 63;
+-- the papers have no other, and any other is taken by its remainder.
 unfoldable pub firstOf : ℕ → ℕ → ℕ
-firstOf list start = pick (eqb (fromOf list start) 0) (leastOf list) (leastOf (fromOf list start))
+firstOf list start =
+    let above = fromOf list (start % 64) in
+    pick (eqb above 0) (leastOf list) (leastOf above)
 
 -- the set with task k taken off
 abbrev pub withoutOf : ℕ → ℕ → ℕ

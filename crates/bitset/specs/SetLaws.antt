@@ -3,7 +3,7 @@ use mathlib.Core.Path.{_≡_, refl, sym, ap, _∙_, subst}
 use mathlib.Core.Logic.{_≢_, _↔_}
 use mathlib.Core.Bool.{Bool, true, false, and-eq-true-iff}
 use Prim.Native.Nat.{ℕ, zero, suc, _+_, _-_, _*_, _/_, _%_, _^_, _≤_, _<_, min}
-use native.Mathlib.Nat.{pow-suc, le-refl, le-trans, le-of-eq, lt-of-not-le, mul-comm, mul-assoc, div-one, div-div-eq-div-mul, div-mul-le-self}
+use native.Mathlib.Nat.{pow-suc, le-refl, le-trans, le-of-eq, lt-of-not-le, mod-eq-of-lt, mul-comm, mul-assoc, div-one, div-div-eq-div-mul, div-mul-le-self}
 use native.Mathlib.Decide.{ℕ-discrete, decLt}
 use native.Mathlib.Omega.{arith}
 use lib.Dec.{eqb, ltb, leb, leb·suc-suc}
@@ -159,18 +159,20 @@ least-from list start h ne = (sym (from-at list start (leastOf above) from) ∙ 
     from = omega (arith, lt-of-not-le {n = suc (leastOf above)} {m = start} (λ l. absurd (omega (arith, from-below list start (leastOf above) l, least .0))))
 
 -- where the set has a task at or above the start, the first is the least of those
-pub first-above : (list start k : ℕ) → list < 2 ^ 64 → start ≤ k → bit list k ≡ 1
+pub first-above : (list start k : ℕ) → list < 2 ^ 64 → start < 64 → start ≤ k → bit list k ≡ 1
     → (start ≤ firstOf list start) × ((j : ℕ) → start ≤ j → j < firstOf list start → bit list j ≡ 0)
 unfolding firstOf
-first-above list start k h a e = let l = least-from list start h some in rw (ne-eqb (fromOf list start) 0 some) (l .1, l .2)
+first-above list start k h s a e =
+    let l = least-from list start h some in
+    rw (mod-eq-of-lt s, ne-eqb (fromOf list start) 0 some) (l .1, l .2)
   where
     some : fromOf list start ≢ 0
     some z = absurd (omega (arith, from-at list start k a, ap (λ (x : ℕ). bit x k) z, bit-zero k))
 
 -- where it has none there, the first is the least of all
-pub first-round : (list start : ℕ) → list < 2 ^ 64 → ((k : ℕ) → start ≤ k → bit list k ≡ 0) → firstOf list start ≡ leastOf list
+pub first-round : (list start : ℕ) → list < 2 ^ 64 → start < 64 → ((k : ℕ) → start ≤ k → bit list k ≡ 0) → firstOf list start ≡ leastOf list
 unfolding firstOf
-first-round list start h none = rw (eq-eqb (fromOf list start) 0 empty)
+first-round list start h s none = rw (mod-eq-of-lt s, eq-eqb (fromOf list start) 0 empty)
   where
     digit : (j : ℕ) → Dec (j < start) → bit (fromOf list start) j ≡ bit 0 j
     digit j (yes l) = from-below list start j l ∙ sym (bit-zero j)
@@ -187,12 +189,13 @@ first-from-0 list = rw all (by-test (λ k. k ≡ leastOf list) (eqb list 0) (λ 
     all : fromOf list 0 ≡ list
     all = omega (arith, div-one list)
 
--- it is a task of 0 to 63, or 64
+-- whatever the start, the first is a task of 0 to 63, or 64
 pub first-le : (list start : ℕ) → firstOf list start ≤ 64
 unfolding firstOf
-first-le list start = by-test (λ k. k ≤ 64) (eqb (fromOf list start) 0) (λ _. trailing-le 64 list) (λ _. trailing-le 64 (fromOf list start))
+first-le list start =
+    by-test (λ k. k ≤ 64) (eqb (fromOf list (start % 64)) 0) (λ _. trailing-le 64 list) (λ _. trailing-le 64 (fromOf list (start % 64)))
 
--- whatever the start, the first is a member exactly if the set is not empty
+-- and it is a member exactly if the set is not empty
 pub first-member : (list start : ℕ) → list < 2 ^ 64 → (bit list (firstOf list start) ≡ 1) ↔ (list ≢ 0)
 unfolding firstOf
 first-member list start h = (some, taken)
@@ -202,8 +205,8 @@ first-member list start h = (some, taken)
 
     taken : list ≢ 0 → bit list (firstOf list start) ≡ 1
     taken ne =
-        by-test (λ k. bit list k ≡ 1) (eqb (fromOf list start) 0) (λ _. least-of-list list (omega arith) h .0)
-        (λ e. least-from list start h (eqb-false (fromOf list start) 0 e) .0)
+        by-test (λ k. bit list k ≡ 1) (eqb (fromOf list (start % 64)) 0) (λ _. least-of-list list (omega arith) h .0)
+        (λ e. least-from list (start % 64) h (eqb-false (fromOf list (start % 64)) 0 e) .0)
 
 -- ---- taking a task off and putting one on
 

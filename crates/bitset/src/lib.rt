@@ -2,7 +2,7 @@
 // changes nothing. What each answers is defined in specs/Set.antt; the laws are in specs/SetLaws.antt.
 ghost use mathlib.Core.Path.{_≡_};
 ghost use Rattle.bitset.specs.Tasks.{isCount};
-ghost use Rattle.bitset.specs.Set.{memberOf, leastOf, fromOf, firstOf, withoutOf, withOf, allOf, withinOf, sizeOf};
+ghost use Rattle.bitset.specs.Set.{memberOf, leastOf, firstOf, withoutOf, withOf, allOf, withinOf, sizeOf};
 
 // Whether there can be n tasks: 1 to 64.
 pub fn is_count(n: usize) -> bool
@@ -28,21 +28,12 @@ pub fn least(list: u64) -> usize
     u64::trailing_zeros(list) as usize
 }
 
-// The tasks of the set at or above the one given.
-fn from(list: u64, task: usize) -> u64
-    ensures { λ r. ⌜ r ≡ fromOf list task ⌝ }
-{
-    if 64 <= task {
-        return 0;
-    }
-    list & (!0u64 << task)
-}
-
-// The first task of the set at or above the start, going round to 0 after the last; 64 for the empty set.
+// The first task of the set at or above the start, going round to 0 after the last; 64 for the empty set. A start of 64 or more is taken by its
+// remainder.
 pub fn first(list: u64, start: usize) -> usize
     ensures { λ r. ⌜ r ≡ firstOf list start ⌝ }
 {
-    let above = from(list, start);
+    let above = list & (!0u64 << (start % 64));
     if above == 0 {
         least(list)
     } else {
