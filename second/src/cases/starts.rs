@@ -57,13 +57,18 @@ fn some_ahead(recorder: &mut Recorder) {
 fn every_list(recorder: &mut Recorder) {
     recorder.fresh_starts(4, &[0, 1, 2, 3]);
     for list in 0..16 {
-        for task in 0..4 {
-            recorder.set(LINE, task, 13);
-            recorder.set(LIST, task, list);
-            recorder.turn(task as u64);
-        }
-        recorder.show();
+        turns_at_13(recorder, 4, list);
     }
+}
+
+/// The first tasks are put to 13 with the list, and each has a turn.
+fn turns_at_13(recorder: &mut Recorder, tasks: usize, list: u64) {
+    for task in 0..tasks {
+        recorder.set(LINE, task, 13);
+        recorder.set(LIST, task, list);
+        recorder.turn(task as u64);
+    }
+    recorder.show();
 }
 
 /// Request 1, no start table and a table of zeros give the same state.
@@ -105,12 +110,7 @@ fn lists_of_64_tasks(recorder: &mut Recorder) {
     starts[..6].copy_from_slice(&[63, 62, 0, 1, 31, 32]);
     recorder.fresh_starts(64, &starts);
     for list in [1, 2, last, last | 1, last >> 1, last >> 1 | 1, 1 << 31, 1 << 32, u64::MAX, 0] {
-        for task in 0..6 {
-            recorder.set(LINE, task, 13);
-            recorder.set(LIST, task, list);
-            recorder.turn(task as u64);
-        }
-        recorder.show();
+        turns_at_13(recorder, 6, list);
     }
 }
 
