@@ -17,13 +17,16 @@ pub struct Start {
     pub schedule: Vec<u8>,
 }
 
-/// An answer: the reason of a refusal, 0 if there is none, and the lent number.
+/// An answer: the reason of a refusal, 0 if there is none, the lent number, and the rounds closed.
 ///
 /// The number of a run is that of the turns made, or for reason 9 the place of the first turn that is no task. A turn and ready tell the
 /// run's reason and number where there is a reason. Else the turn's number is 1 if it moved, and 0 if not; ready's is the least task that
 /// can move, or `NOBODY`. The number of passes is that of the pairs, or for reason 9 the place.
+///
+/// A run tells the rounds that it closed, and a turn tells 1 if it closed one, else 0. The others tell none.
 #[derive(Clone, Copy, Debug, PartialEq, Eq)]
 pub struct Answer {
     pub reason: u8,
     pub number: usize,
+    pub rounds: u32,
 }

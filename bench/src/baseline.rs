@@ -13,10 +13,11 @@ pub fn turn(start: &Start, log: &mut [u8], task: usize) -> Answer {
     let mut state = State::ZERO;
     let answer = run_from(&mut state, start, log);
     if answer.reason != 0 {
-        return answer;
+        return Answer { rounds: 0, ..answer };
     }
     match machine::turn(&mut state, task as u64) {
-        Ok(outcome) => accepted(usize::from(outcome == Outcome::Moved)),
+        Ok(Outcome::Moved { closed }) => Answer { rounds: closed.into(), ..accepted(1) },
+        Ok(Outcome::Waited) => accepted(0),
         Err(refusal) => refused(refusal),
     }
 }
@@ -25,7 +26,7 @@ pub fn ready(start: &Start, log: &mut [u8]) -> Answer {
     let mut state = State::ZERO;
     let answer = run_from(&mut state, start, log);
     if answer.reason != 0 {
-        return answer;
+        return Answer { rounds: 0, ..answer };
     }
     match machine::ready(&state) {
         Ok(task) => accepted(task.unwrap_or(NOBODY)),
@@ -56,15 +57,16 @@ fn run_from(state: &mut State, start: &Start, log: &mut [u8]) -> Answer {
 }
 
 fn told(report: Report) -> Answer {
-    match report.ending {
+    let answer = match report.ending {
         Ending::Done | Ending::Spent => accepted(report.turns),
-        Ending::Stopped(refusal) => Answer { reason: refusal.number(), number: report.turns },
+        Ending::Stopped(refusal) => Answer { reason: refusal.number(), ..accepted(report.turns) },
         Ending::Refused(refusal) => refused(refusal),
-    }
+    };
+    Answer { rounds: report.rounds as u32, ..answer }
 }
 
 fn accepted(number: usize) -> Answer {
-    Answer { reason: 0, number }
+    Answer { reason: 0, number, rounds: 0 }
 }
 
 /// Every number of a refused call is 0, but for the place of 9.
@@ -73,5 +75,5 @@ fn refused(refusal: Refusal) -> Answer {
         Refusal::TaskAt(place) => place,
         _ => 0,
     };
-    Answer { reason: refusal.number(), number: place }
+    Answer { reason: refusal.number(), ..accepted(place) }
 }

@@ -40,6 +40,7 @@ pub fn check() -> Result<String, String> {
         calls.sheet(&text)?;
     }
     check_reasons(&calls)?;
+    check_rounds(&calls)?;
     Ok(summary(&calls))
 }
 
@@ -67,11 +68,24 @@ fn check_reasons(calls: &Calls) -> Result<(), String> {
     Ok(())
 }
 
+/// Runs and turns have told of closed rounds, and not all of them have.
+fn check_rounds(calls: &Calls) -> Result<(), String> {
+    for function in [Function::Run, Function::Turn] {
+        let (closed, made) = (calls.closed(function), calls.made(function));
+        if closed == 0 || closed == made {
+            let name = function.name();
+            return Err(format!("{name} has told of a closed round in {closed} of {made} calls"));
+        }
+    }
+    Ok(())
+}
+
 fn summary(calls: &Calls) -> String {
     let counts = REASONS.map(|(function, reasons)| {
         let refusals: Vec<String> = reasons[1..].iter().map(u8::to_string).collect();
-        let (name, made) = (function.name(), calls.made(function));
-        format!("{name} {made} calls (refused {})", refusals.join(" "))
+        let (name, made, closed) = (function.name(), calls.made(function), calls.closed(function));
+        let closed = if closed > 0 { format!("; {closed} closed a round") } else { String::new() };
+        format!("{name} {made} calls (refused {}{closed})", refusals.join(" "))
     });
     format!("the library answers as the second program: {}", counts.join(", "))
 }

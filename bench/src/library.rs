@@ -2,22 +2,6 @@
 
 use crate::answer::{Answer, Start, PAGE};
 
-/// A run from a fresh state, or a run and then ready.
-type RunFrom = unsafe extern "C" fn(
-    kind: usize,
-    n: usize,
-    modulus: usize,
-    parents: *const u8,
-    parents_len: usize,
-    starts: *const u8,
-    starts_len: usize,
-    schedule: *const u8,
-    schedule_len: usize,
-    log: *mut u8,
-    log_len: usize,
-    number: *mut usize,
-) -> u8;
-
 mod raw {
     use super::PAGE;
 
@@ -35,6 +19,7 @@ mod raw {
             log: *mut u8,
             log_len: usize,
             number: *mut usize,
+            rounds: *mut u32,
         ) -> u8;
         pub fn tungwaff_turn(
             kind: usize,
@@ -50,6 +35,7 @@ mod raw {
             log_len: usize,
             task: usize,
             number: *mut usize,
+            closed: *mut u8,
         ) -> u8;
         pub fn tungwaff_ready(
             kind: usize,
@@ -77,60 +63,50 @@ mod raw {
     }
 }
 
-/// The lent number before a call: no function answers it.
+/// The lent numbers before a call: no function answers them.
 const UNTOLD: usize = usize::MAX;
+const NO_ROUNDS: u32 = u32::MAX;
+const NO_ROUND: u8 = u8::MAX;
 
-fn run_from(function: RunFrom, start: &Start, log: &mut [u8]) -> Answer {
-    let mut number = UNTOLD;
-    // SAFETY: the addresses and lengths are those of slices that live through the call, and the log and the number are lent to it alone.
-    let reason = unsafe {
-        function(
-            start.kind,
-            start.n,
-            start.modulus,
-            start.parents.as_ptr(),
-            start.parents.len(),
-            start.starts.as_ptr(),
-            start.starts.len(),
-            start.schedule.as_ptr(),
-            start.schedule.len(),
-            log.as_mut_ptr(),
-            log.len(),
-            &mut number,
-        )
+/// A call of a function that begins with a run from a fresh state.
+macro_rules! run_from {
+    ($function:path, $start:expr, $log:expr, $($more:expr),+) => {
+        // SAFETY: the addresses and lengths are those of slices that live through the call, and the log and the numbers are lent to it alone.
+        unsafe {
+            $function(
+                $start.kind,
+                $start.n,
+                $start.modulus,
+                $start.parents.as_ptr(),
+                $start.parents.len(),
+                $start.starts.as_ptr(),
+                $start.starts.len(),
+                $start.schedule.as_ptr(),
+                $start.schedule.len(),
+                $log.as_mut_ptr(),
+                $log.len(),
+                $($more),+
+            )
+        }
     };
-    Answer { reason, number }
 }
 
 pub fn run(start: &Start, log: &mut [u8]) -> Answer {
-    run_from(raw::tungwaff_run, start, log)
+    let (mut number, mut rounds) = (UNTOLD, NO_ROUNDS);
+    let reason = run_from!(raw::tungwaff_run, start, log, &mut number, &mut rounds);
+    Answer { reason, number, rounds }
 }
 
 pub fn ready(start: &Start, log: &mut [u8]) -> Answer {
-    run_from(raw::tungwaff_ready, start, log)
+    let mut number = UNTOLD;
+    let reason = run_from!(raw::tungwaff_ready, start, log, &mut number);
+    Answer { reason, number, rounds: 0 }
 }
 
 pub fn turn(start: &Start, log: &mut [u8], task: usize) -> Answer {
-    let mut number = UNTOLD;
-    // SAFETY: as above.
-    let reason = unsafe {
-        raw::tungwaff_turn(
-            start.kind,
-            start.n,
-            start.modulus,
-            start.parents.as_ptr(),
-            start.parents.len(),
-            start.starts.as_ptr(),
-            start.starts.len(),
-            start.schedule.as_ptr(),
-            start.schedule.len(),
-            log.as_mut_ptr(),
-            log.len(),
-            task,
-            &mut number,
-        )
-    };
-    Answer { reason, number }
+    let (mut number, mut closed) = (UNTOLD, NO_ROUND);
+    let reason = run_from!(raw::tungwaff_turn, start, log, task, &mut number, &mut closed);
+    Answer { reason, number, rounds: closed.into() }
 }
 
 pub fn passes(n: usize, schedule: &[u8], pairs: &mut [u32]) -> Answer {
@@ -146,7 +122,7 @@ pub fn passes(n: usize, schedule: &[u8], pairs: &mut [u32]) -> Answer {
             &mut number,
         )
     };
-    Answer { reason, number }
+    Answer { reason, number, rounds: 0 }
 }
 
 /// Gives the sheet's length.

@@ -67,7 +67,7 @@ impl Run {
 }
 
 /// What stands for an answer before the work is done.
-const UNDONE: Answer = Answer { reason: 255, number: 0 };
+const UNDONE: Answer = Answer { reason: 255, number: 0, rounds: 0 };
 
 /// The binary tree's table for a tree, and none for another kind.
 fn parents(kind: u8, n: usize) -> Vec<u8> {
@@ -99,7 +99,8 @@ impl Work for Run {
         }
         let report = run(&mut state, schedule, schedule.len() as u64, &mut self.theirs.1);
         if report.ending == Ending::Done {
-            self.theirs.0 = Answer { reason: 0, number: report.turns };
+            self.theirs.0 =
+                Answer { reason: 0, number: report.turns, rounds: report.rounds as u32 };
         }
     }
 
@@ -137,7 +138,7 @@ impl Work for Cut {
 
     fn baseline(&mut self) {
         let counted = passes::passes(self.n as u64, &self.schedule, &mut self.theirs.1);
-        self.theirs.0 = counted.map_or(UNDONE, |number| Answer { reason: 0, number });
+        self.theirs.0 = counted.map_or(UNDONE, |number| Answer { reason: 0, number, rounds: 0 });
     }
 
     fn compare(&self) {

@@ -2,12 +2,14 @@
 
 mod calls;
 mod damage;
+mod fields;
 mod fresh;
 mod limits;
 mod long;
 pub mod malformed;
 mod ranges;
 mod refusals;
+pub mod rounds;
 pub mod scenes;
 mod starts;
 mod steps;
@@ -44,6 +46,7 @@ fn stored() -> Recorder {
     limits::cases(&mut recorder);
     ranges::cases(&mut recorder);
     starts::cases(&mut recorder);
+    rounds::cases(&mut recorder);
     trees::cases(&mut recorder);
     malformed::cases(&mut recorder);
     long::cases(&mut recorder, &mut random);

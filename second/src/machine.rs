@@ -1,5 +1,5 @@
-//! The barrier machine: the state, the lines of the four kinds, the ranges of the fields,
-//! and the calls fresh, turn, ready and run. Every call changes the state in place.
+//! The barrier machine: the state, the lines of the four kinds, the least count, the ranges of the
+//! fields, and the calls fresh, turn, ready and run. Every call changes the state in place.
 
 use super::refusal::{check_schedule, check_task_count, Refusal, MAX_TASKS};
 
@@ -79,7 +79,11 @@ impl State {
 #[derive(Clone, Copy, Debug, PartialEq, Eq)]
 pub enum Outcome {
     Waited,
-    Moved,
+    /// The line was carried out.
+    Moved {
+        /// Whether the least count rose, which closes a round.
+        closed: bool,
+    },
 }
 
 // ---- fresh ----
@@ -179,17 +183,29 @@ pub fn turn(state: &mut State, task: u64) -> Result<Outcome, Refusal> {
 
 /// A turn of one of the tasks of a state that is in range; it keeps the state in range.
 pub fn step(state: &mut State, task: usize) -> Result<Outcome, Refusal> {
+    step_with(state, task, is_least)
+}
+
+/// The same. Only where the task's count rises, it asks whether the least count rose with it; the
+/// question gets the state after the turn and the count that the task has now.
+fn step_with(
+    state: &mut State,
+    task: usize,
+    closes: impl FnOnce(&State, u32) -> bool,
+) -> Result<Outcome, Refusal> {
     check_step(state, task)?;
     if must_wait(state, task) {
         return Ok(Outcome::Waited);
     }
+    let before = state.tasks[task].count;
     match state.kind {
         SYMMETRIC => symmetric(state, task),
         FETCH_AND_INCREMENT => fetch_and_increment(state, task),
         RING => ring(state, task),
         _ => tree(state, task),
     }
-    Ok(Outcome::Moved)
+    let count = state.tasks[task].count;
+    Ok(Outcome::Moved { closed: count > before && closes(state, count) })
 }
 
 /// The half of 7 that is due at a turn, then 11.
@@ -208,7 +224,7 @@ fn check_step(state: &State, task: usize) -> Result<(), Refusal> {
 }
 
 /// The line at which the kind's count rises.
-fn counting_line(kind: u8) -> u8 {
+pub fn counting_line(kind: u8) -> u8 {
     match kind {
         SYMMETRIC => 12,
         FETCH_AND_INCREMENT | RING => 13,
@@ -394,6 +410,57 @@ fn children(state: &State, task: usize) -> u64 {
     list
 }
 
+// ---- the least count ----
+
+/// The counts of tasks 0 to N - 1.
+fn counts(state: &State) -> impl Iterator<Item = u32> + '_ {
+    state.tasks[..usize::from(state.n)].iter().map(|task| task.count)
+}
+
+/// The lowest of the counts.
+pub fn least_count(state: &State) -> u32 {
+    counts(state).min().unwrap_or(0)
+}
+
+/// Whether no count is below this one. If it is one that just rose by 1, then exactly if the least
+/// count rose: any other task at the old least count or below it would still stand there.
+fn is_least(state: &State, count: u32) -> bool {
+    counts(state).all(|other| other >= count)
+}
+
+/// The least count and the number of tasks that stand at it, kept over the turns of a run.
+struct Least {
+    count: u32,
+    tasks: usize,
+}
+
+impl Least {
+    fn new(state: &State) -> Least {
+        let count = least_count(state);
+        Least { count, tasks: standing_at(state, count) }
+    }
+
+    /// Takes in that a task's count rose to this one. Gives whether the least count rose with it:
+    /// then this task was the last at the old one, and the new one is its count.
+    fn rise(&mut self, state: &State, count: u32) -> bool {
+        if count - 1 != self.count {
+            return false;
+        }
+        self.tasks -= 1;
+        if self.tasks > 0 {
+            return false;
+        }
+        *self = Least { count, tasks: standing_at(state, count) };
+        true
+    }
+}
+
+/// The number of tasks whose count is this one. Not inlined: the run's loop is faster without it.
+#[inline(never)]
+fn standing_at(state: &State, count: u32) -> usize {
+    counts(state).filter(|&other| other == count).count()
+}
+
 // ---- field ranges ----
 
 /// Whether every field of the state is in range.
@@ -518,6 +585,8 @@ pub enum Ending {
 pub struct Report {
     pub ending: Ending,
     pub turns: usize,
+    /// How many of the moves closed a round.
+    pub rounds: usize,
     pub moves: [u32; MAX_TASKS],
     pub waits: [u32; MAX_TASKS],
 }
@@ -525,20 +594,24 @@ pub struct Report {
 impl Report {
     /// A report of no turns.
     fn new(ending: Ending) -> Report {
-        Report { ending, turns: 0, moves: [0; MAX_TASKS], waits: [0; MAX_TASKS] }
+        Report { ending, turns: 0, rounds: 0, moves: [0; MAX_TASKS], waits: [0; MAX_TASKS] }
     }
 
     /// Counts one turn of a task.
     fn count(&mut self, task: usize, outcome: Outcome) {
         self.turns += 1;
         match outcome {
-            Outcome::Moved => self.moves[task] += 1,
+            Outcome::Moved { closed } => {
+                self.moves[task] += 1;
+                self.rounds += usize::from(closed);
+            }
             Outcome::Waited => self.waits[task] += 1,
         }
     }
 }
 
-/// A run: makes the schedule's turns as far as the allowance goes and logs two bytes for each.
+/// A run: makes the schedule's turns as far as the allowance goes and logs two bytes for each. It
+/// goes over the counts at its beginning and where it closes a round, not at every turn.
 pub fn run(state: &mut State, schedule: &[u8], allowance: u64, log: &mut [u8]) -> Report {
     let limit = match check_run(state, schedule, allowance, log) {
         Ok(limit) => limit,
@@ -546,12 +619,13 @@ pub fn run(state: &mut State, schedule: &[u8], allowance: u64, log: &mut [u8]) -
     };
     let whole = limit == schedule.len();
     let mut report = Report::new(if whole { Ending::Done } else { Ending::Spent });
+    let mut least = Least::new(state);
     for (&task, entry) in schedule[..limit].iter().zip(log.chunks_exact_mut(2)) {
         let task = usize::from(task);
         let line = state.tasks[task].line;
-        match step(state, task) {
+        match step_with(state, task, |state, count| least.rise(state, count)) {
             Ok(outcome) => {
-                entry.copy_from_slice(&[line, u8::from(outcome == Outcome::Moved)]);
+                entry.copy_from_slice(&[line, u8::from(outcome != Outcome::Waited)]);
                 report.count(task, outcome);
             }
             Err(refusal) => {

@@ -1,6 +1,6 @@
 //! Records requests together with the answers that the replay gives to them.
 
-use super::machine::{State, Tables, SYMMETRIC};
+use super::machine::{State, Tables, SYMMETRIC, TREE};
 use super::requests::{field_value, Replay};
 
 #[derive(Default)]
@@ -50,6 +50,13 @@ impl Recorder {
     /// Request 1.
     pub fn fresh(&mut self, kind: u64, n: u64, modulus: u64, parents: &[u8]) {
         self.ask(line(&[1, kind, n, modulus], parents));
+    }
+
+    /// Request 1 of a kind, with R 3 if it is symmetric and as a flat tree.
+    pub fn fresh_kind(&mut self, kind: u8, n: usize) {
+        let modulus = if kind == SYMMETRIC { 3 } else { 0 };
+        let parents = vec![0; if kind == TREE { n } else { 0 }];
+        self.fresh(kind.into(), n as u64, modulus, &parents);
     }
 
     /// Request 10 with a parent and a start table.

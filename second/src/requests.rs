@@ -99,7 +99,7 @@ impl Replay {
     /// Request 2.
     fn turn(&mut self, task: u64) -> String {
         match turn(&mut self.state, task) {
-            Ok(Outcome::Moved) => "1".to_string(),
+            Ok(Outcome::Moved { closed }) => format!("1 {}", u8::from(closed)),
             Ok(Outcome::Waited) => "0".to_string(),
             Err(refusal) => refusal.to_string(),
         }
@@ -240,7 +240,7 @@ fn answer_shape(number: u64, n: u64, length: u64) -> Option<String> {
 /// The answer line of a run.
 fn report_line(report: &Report, log: &[u8]) -> String {
     let mut line = ending(report.ending);
-    append(&mut line, &[report.turns]);
+    append(&mut line, &[report.turns, report.rounds]);
     append(&mut line, &report.moves);
     append(&mut line, &report.waits);
     append(&mut line, log);

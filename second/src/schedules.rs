@@ -12,6 +12,11 @@ pub fn repeat(task: u8, length: usize) -> Vec<u8> {
     vec![task; length]
 }
 
+/// So many turns of each task, one task after another.
+pub fn each(tasks: impl Iterator<Item = u8>, turns: usize) -> Vec<u8> {
+    tasks.flat_map(|task| repeat(task, turns)).collect()
+}
+
 /// A schedule of a random manner.
 pub fn any(random: &mut Random, n: usize, length: usize) -> Vec<u8> {
     match random.below(6) {

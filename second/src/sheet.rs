@@ -1,6 +1,6 @@
 //! The sheet: a text of numbers in, the table of a whole run or a refusal out.
 
-use super::machine::{fresh, run, Ending, Report, State, Tables, TREE};
+use super::machine::{fresh, least_count, run, Ending, Report, State, Tables, TREE};
 use super::passes::Passes;
 use super::refusal::Refusal;
 use std::fmt::Write;
@@ -74,8 +74,7 @@ fn table(state: &State, report: &Report, schedule: &[u8]) -> String {
         let _ = writeln!(text, "{number} {line} {count} {moves} {waits}");
     }
     let passes = Passes::new(n, schedule).count();
-    let counts = state.tasks[..n].iter().map(|task| task.count);
-    let least = counts.min().unwrap_or(0);
+    let least = least_count(state);
     let _ = writeln!(text, "passes {passes} least {least}");
     text
 }

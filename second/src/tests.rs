@@ -1,17 +1,21 @@
-//! Tests: the scope's cases and traps, the refusals, starts, all reachable states of small
+//! Tests: the scope's cases and traps, the refusals, starts, rounds, all reachable states of small
 //! barriers, and the texts of the sheet and the replay.
 
 mod calls;
 mod reach;
 mod refusals;
+mod rounds;
 mod sheets;
 mod starts;
 mod table;
 mod texts;
 mod traps;
 
-use crate::machine::{fresh, turn, Outcome, State, Tables, SYMMETRIC};
+use crate::machine::{fresh, turn, Outcome, State, Tables, SYMMETRIC, TREE};
+use crate::parents;
+use crate::random::Random;
 use crate::refusal::Refusal;
+use crate::schedules;
 
 /// A fresh state that must be accepted.
 fn begin(kind: u8, n: u64, modulus: u64, parents: &[u8]) -> State {
@@ -27,6 +31,18 @@ fn begin_starts(modulus: u64, starts: &[u8]) -> State {
     let n = starts.len() as u64;
     assert_eq!(fresh(&mut state, SYMMETRIC.into(), n, modulus, tables), Ok(()));
     state
+}
+
+/// A random fresh state of a few tasks.
+fn begin_any(random: &mut Random) -> State {
+    let kind = random.below(4) as u8;
+    let n = random.length(1, 9);
+    match kind {
+        SYMMETRIC if random.once_in(2) => begin_starts(3, &schedules::uniform(random, n, n)),
+        SYMMETRIC => begin(kind, n as u64, 3, &[]),
+        TREE => begin(kind, n as u64, 0, &parents::any(random, n)),
+        _ => begin(kind, n as u64, 0, &[]),
+    }
 }
 
 /// The refusal's number of a fresh state, or 0 if it is accepted.
@@ -52,7 +68,7 @@ fn play(state: &mut State, tasks: &[u8]) -> Vec<(u8, u8)> {
     for &task in tasks {
         let outcome = turn(state, task.into());
         assert!(outcome.is_ok(), "{outcome:?}");
-        let moved = u8::from(outcome == Ok(Outcome::Moved));
+        let moved = u8::from(outcome != Ok(Outcome::Waited));
         answers.push((moved, state.tasks[usize::from(task)].line));
     }
     answers
@@ -66,6 +82,11 @@ fn lines(state: &State, n: usize) -> Vec<u8> {
 /// The counts of the first n tasks.
 fn counts(state: &State, n: usize) -> Vec<u32> {
     state.tasks[..n].iter().map(|task| task.count).collect()
+}
+
+/// The lowest of the counts.
+fn least(state: &State) -> u32 {
+    counts(state, state.n.into()).into_iter().min().unwrap_or(0)
 }
 
 /// All rows of so many numbers below n: the schedules of a length, or the start tables.

@@ -28,10 +28,11 @@ impl Function {
     }
 }
 
-/// The calls made: for each function the number of those that answered each reason.
+/// The calls made: for each function the number of those that answered each reason, and of those that told of a closed round.
 #[derive(Default)]
 pub struct Calls {
     answered: [BTreeMap<u8, usize>; 5],
+    closed: [usize; 5],
 }
 
 impl Calls {
@@ -43,6 +44,11 @@ impl Calls {
     /// The reasons that a function has answered.
     pub fn reasons(&self, function: Function) -> Vec<u8> {
         self.answered[function as usize].keys().copied().collect()
+    }
+
+    /// The calls of a function that told of a closed round.
+    pub fn closed(&self, function: Function) -> usize {
+        self.closed[function as usize]
     }
 
     /// The four functions that take a schedule.
@@ -69,6 +75,7 @@ impl Calls {
     ) -> Result<(), String> {
         let ours = lend(LOG, case.log, |log| library(&case.start, log));
         let theirs = lend(LOG, case.log, |log| baseline(&case.start, log));
+        self.closed[function as usize] += usize::from(theirs.0.rounds > 0);
         self.compare(function, ours, theirs, |answer| answer.reason, case)
     }
 

@@ -23,7 +23,7 @@ pub by-move {ℓ} : (P : View → Type ℓ) (s : State) (p : ℕ) → P (viewOf 
 by-move P s p same moved = go (turnOf s p .outcome) refl
   where
     go : (o : Outcome) → turnOf s p .outcome ≡ o → P (viewOf (turnOf s p .state))
-    go (Made Moved) e = moved (moved-acts s p e)
+    go (Made (Moved c)) e = moved (moved-acts s p c e)
     go (Made Waited) e = subst (λ (x : State). P (viewOf x)) (sym (waited-still s p e)) same
     go (Refused k) e = subst (λ (x : State). P (viewOf x)) (sym (refused-still s p k e)) same
 

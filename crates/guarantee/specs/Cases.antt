@@ -1,6 +1,6 @@
 -- The twelve marked cases of 01's table, one claim over the definitions that the contracts cite, shown by computation.
 use mathlib.Core.Path.{_≡_, refl}
-use mathlib.Core.List.{List, [], _∷_}
+use mathlib.Core.List.{List, [], _∷_, _++_}
 use Prim.Native.Nat.{ℕ}
 use lib.ListN.{replicate}
 use Rattle.machine.specs.declared.State.{State}
@@ -15,7 +15,9 @@ use Rattle.lines.specs.Tree.{treeGather, treeMeet, treeRelease}
 use Rattle.machine.specs.declared.Move.the-variants.{Moved, Waited}
 use Rattle.machine.specs.declared.Outcome.{Outcome}
 use Rattle.machine.specs.declared.Outcome.the-variants.{Made}
+use Rattle.machine.specs.Least.{least}
 use Rattle.machine.specs.Turn.{effectOf, stepOf, turnOf}
+use Rattle.counts.specs.Counts.{lowest}
 use Rattle.bitset.specs.Table.{table}
 use Rattle.bitset.specs.Set.{put, withinDigits, firstOf}
 use Rattle.parents.specs.Shapes.{shapeTable, shapeOf, tableAfter}
@@ -27,7 +29,7 @@ use lib.Count.{trailingZeros}
 
 -- Every definition that the cases compute by: a proof that unfolds this one unfolds them.
 unfoldable pub computing : ℕ
-unfolding freshOf freshReason turnOf stepOf effectOf checkState stateOk tasksOk taskOk taskZero allBelow symmetricLine incrementLine ringLine treeGather treeMeet treeRelease table withinDigits put firstOf trailingZeros entriesOk checkOf childrenBelow namesAll passesFrom pairsFrom unknownAt passesAnswer pairsAfter shapeTable shapeOf tableAfter
+unfolding least lowest freshOf freshReason turnOf stepOf effectOf checkState stateOk tasksOk taskOk taskZero allBelow symmetricLine incrementLine ringLine treeGather treeMeet treeRelease table withinDigits put firstOf trailingZeros entriesOk checkOf childrenBelow namesAll passesFrom pairsFrom unknownAt passesAnswer pairsAfter shapeTable shapeOf tableAfter
 computing = 0
 
 abbrev pub setup : ℕ → ℕ → ℕ → Setup
@@ -54,10 +56,11 @@ abbrev pub answers : State → List ℕ → List Outcome
 answers s [] = []
 answers s (p ∷ ts) = turnOf s p .outcome ∷ answers (turnOf s p .state) ts
 
-abbrev moved : Outcome
-moved = Made Moved
+-- moved, with whether it closed a round
+abbrev pub moved : ℕ → Outcome
+moved closed = Made (Moved closed)
 
-abbrev waited : Outcome
+abbrev pub waited : Outcome
 waited = Made Waited
 
 -- "The sheet's input above", and the ring's ten turns
@@ -81,13 +84,13 @@ pub record Marked : Type 0 where
   pub sheet : (taskAt sheet-end 0 .line ≡ 11) × (taskAt sheet-end 1 .line ≡ 11) × (taskAt sheet-end 0 .count ≡ 1) × (taskAt sheet-end 1 .count ≡ 1)
       × (sheet-end .sense ≡ 0) × (sheet-end .arrivals ≡ 0)
   -- "Ring, N 2, turns 1 1: moved, waited; task 1 at 12."
-  pub ring-waits : (answers (fresh 2 2 0 []) (1 ∷ 1 ∷ []) ≡ moved ∷ waited ∷ []) × (taskAt (after (fresh 2 2 0 []) (1 ∷ 1 ∷ [])) 1 .line ≡ 12)
+  pub ring-waits : (answers (fresh 2 2 0 []) (1 ∷ 1 ∷ []) ≡ moved 0 ∷ waited ∷ []) × (taskAt (after (fresh 2 2 0 []) (1 ∷ 1 ∷ [])) 1 .line ≡ 12)
   -- "Ring, N 2, turns 0 0 0 1 1 1 0 0 1 1: all moved; both at 11, counts 1, toggles 0."
-  pub ring-round : (answers (fresh 2 2 0 []) ring-turns ≡ replicate 10 moved)
+  pub ring-round : (answers (fresh 2 2 0 []) ring-turns ≡ replicate 5 (moved 0) ++ moved 1 ∷ replicate 4 (moved 0))
       × (taskAt ring-end 0 .line ≡ 11) × (taskAt ring-end 1 .line ≡ 11) × (taskAt ring-end 0 .count ≡ 1) × (taskAt ring-end 1 .count ≡ 1)
       × (taskAt ring-end 0 .toggle ≡ 0) × (taskAt ring-end 1 .toggle ≡ 0)
   -- "Tree, parents 0 0, turns 0 0 0 0: the fourth waited at 14."
-  pub tree-waits : (answers tree-pair (replicate 4 0) ≡ moved ∷ moved ∷ moved ∷ waited ∷ []) × (taskAt (after tree-pair (replicate 4 0)) 0 .line ≡ 14)
+  pub tree-waits : (answers tree-pair (replicate 4 0) ≡ moved 0 ∷ moved 0 ∷ moved 0 ∷ waited ∷ []) × (taskAt (after tree-pair (replicate 4 0)) 0 .line ≡ 14)
   -- "Tree, N 1, seven turns: lines 12, 13, 15, 16, 17, 18, 11."
   pub tree-one : lines (fresh 3 1 0 (0 ∷ [])) (replicate 7 0) ≡ 12 ∷ 13 ∷ 15 ∷ 16 ∷ 17 ∷ 18 ∷ 11 ∷ []
   -- "R 2 refused 4, R 3 accepted."

@@ -1,6 +1,6 @@
 -- What a customer may rely on. `Calls` has the words of demand 3, `Guarantee` the theorem and `Promise` what holds of
 -- ready; `Reach` and `Done` what else holds of reached states; the others show them. `Cases` has the marked cases of 01's table,
--- `Starts` those of 02's P1.
+-- `Starts` those of 02's P1, `Rounds` those of P2.
 pub mod Calls
 pub mod Turns
 pub mod Instance
@@ -10,3 +10,4 @@ pub mod Promise
 pub mod Done
 pub mod Cases
 pub mod Starts
+pub mod Rounds

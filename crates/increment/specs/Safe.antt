@@ -15,7 +15,7 @@ use Rattle.lines.specs.Increment.{increment13}
 use Rattle.lines.specs.LineLaws.{by-increment}
 use Rattle.machine.specs.declared.State.{State}
 use Rattle.machine.specs.Setters.{taskAt}
-use Rattle.machine.specs.Turn.{outcomeOf, turnOf, reasonNumber}
+use Rattle.machine.specs.Turn.{answerOf, turnOf, reasonNumber}
 use Rattle.machine.specs.TurnLaws.{effect-1, turn-step, turn-unknown, step-outcome}
 use Rattle.barrier.specs.Barrier.{Holds}
 use Rattle.increment.specs.Invariant.{Inv}
@@ -35,7 +35,7 @@ module _ (s : State) (i : Holds 1 Inv s) where
   never-7 p = go (decLe (s .n) p)
     where
       No7 : Effect → Type 0
-      No7 e = reasonNumber (outcomeOf (e .act)) ≢ 7
+      No7 e = reasonNumber (answerOf s p e) ≢ 7
 
       t : Task
       t = taskAt s p

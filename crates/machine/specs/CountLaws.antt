@@ -5,6 +5,7 @@ use Prim.Native.Nat.{ℕ, _+_, _≤_, _<_}
 use native.Mathlib.Decide.{ℕ-discrete, decLt}
 use native.Mathlib.Omega.{arith}
 use lib.ListN.{length}
+use Rattle.counts.specs.CountsLaws.{KeptOrRaised}
 use Rattle.lines.specs.declared.Task.{Task}
 use Rattle.lines.specs.declared.Effect.{Effect}
 use Rattle.lines.specs.declared.Write.{Write}
@@ -15,17 +16,13 @@ use Rattle.machine.specs.declared.Outcome.{Outcome}
 use Rattle.machine.specs.declared.Outcome.the-variants.{Made, Refused}
 use Rattle.machine.specs.Setters.{taskAt, withTask}
 use Rattle.machine.specs.Range.{Valid}
-use Rattle.machine.specs.Turn.{sharedOf, effectOf, outcomeOf, written, applied, turnOf, reasonNumber}
+use Rattle.machine.specs.Turn.{sharedOf, effectOf, written, answerOf, applied, turnOf, reasonNumber}
 use Rattle.machine.specs.TurnLaws.{by-turn, turn-step, turn-unknown, effect-does, step-state, step-outcome, turn-constants, own-field, other-field}
 use Rattle.machine.specs.RangeLaws.{range, present}
 use Rattle.machine.specs.Least.{least}
 use Rattle.machine.specs.LeastLaws.{least-le, least-attained}
 
 -- ---- counts
-
--- the count of a task before and after a turn: the same, or one more
-abbrev pub KeptOrRaised : ℕ → ℕ → Type 0
-KeptOrRaised c d = (d ≡ c) ⊎ (d ≡ c + 1)
 
 module _ (s : State) (p q : ℕ) (here : p < length (s .tasks)) where
   -- a move whose own task keeps or raises its count
@@ -41,7 +38,7 @@ module _ (s : State) (p q : ℕ) (here : p < length (s .tasks)) where
       go (no ne) = inl (other-field count (λ x y. (refl, refl)) w s p q u ne)
 
   does-count : (e : Effect) → Does (sharedOf s) (taskAt s p) e
-      → KeptOrRaised (taskAt s q .count) (taskAt (applied (outcomeOf (e .act)) s p (e .task) (e .write)) q .count)
+      → KeptOrRaised (taskAt s q .count) (taskAt (applied (answerOf s p e) s p (e .task) (e .write)) q .count)
   does-count _ (keeps {u} {w} c) = moved-count u w (inl c)
   does-count _ (raises {u} {w} l c) = moved-count u w (inr c)
   does-count _ stays = inl refl
@@ -80,8 +77,8 @@ pub turn-goes : (s : State) (p : ℕ) → Valid s → p < s .n → taskAt s p .c
     → Goes (turnOf s p .outcome)
 turn-goes s p ok h = rw (turn-step s p ok h, step-outcome s p) (go (effectOf s p) (effect-does s p))
   where
-    go : (e : Effect) → Does (sharedOf s) (taskAt s p) e → taskAt s p .count < maxCount → (s .kind ≡ 1 → reasonNumber (outcomeOf (e .act)) ≢ 7)
-        → Goes (outcomeOf (e .act))
+    go : (e : Effect) → Does (sharedOf s) (taskAt s p) e → taskAt s p .count < maxCount → (s .kind ≡ 1 → reasonNumber (answerOf s p e) ≢ 7)
+        → Goes (answerOf s p e)
     go _ (keeps c) low none = tt
     go _ (raises l c) low none = tt
     go _ stays low none = tt
@@ -92,7 +89,7 @@ turn-goes s p ok h = rw (turn-step s p ok h, step-outcome s p) (go (effectOf s p
 pub turn-refusals : (s : State) (p k : ℕ) → Valid s → p < s .n → turnOf s p .outcome ≡ Refused k → (k ≡ 7) ⊎ (k ≡ 11)
 turn-refusals s p k ok h = rw (turn-step s p ok h, step-outcome s p) (go (effectOf s p) (effect-does s p))
   where
-    go : (e : Effect) → Does (sharedOf s) (taskAt s p) e → outcomeOf (e .act) ≡ Refused k → (k ≡ 7) ⊎ (k ≡ 11)
+    go : (e : Effect) → Does (sharedOf s) (taskAt s p) e → answerOf s p e ≡ Refused k → (k ≡ 7) ⊎ (k ≡ 11)
     go _ (keeps c) e = let z : _≡_ {A = ℕ} 0 1 = cc in absurd (omega arith)
     go _ (raises l c) e = let z : _≡_ {A = ℕ} 0 1 = cc in absurd (omega arith)
     go _ stays e = let z : _≡_ {A = ℕ} 0 1 = cc in absurd (omega arith)
@@ -103,7 +100,7 @@ turn-refusals s p k ok h = rw (turn-step s p ok h, step-outcome s p) (go (effect
 pub seven-of-kind-1 : (s : State) (p : ℕ) → Valid s → reasonNumber (turnOf s p .outcome) ≡ 7 → s .kind ≡ 1
 seven-of-kind-1 s p ok = split (decLt p (s .n))
   where
-    go : (e : Effect) → Does (sharedOf s) (taskAt s p) e → reasonNumber (outcomeOf (e .act)) ≡ 7 → s .kind ≡ 1
+    go : (e : Effect) → Does (sharedOf s) (taskAt s p) e → reasonNumber (answerOf s p e) ≡ 7 → s .kind ≡ 1
     go _ (keeps c) e = absurd (omega arith)
     go _ (raises l c) e = absurd (omega arith)
     go _ stays e = absurd (omega arith)

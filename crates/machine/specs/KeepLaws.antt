@@ -284,15 +284,16 @@ keep-moved s p t w r h tr ok = keep-written w (withTask s p t) (keep-task s p t 
     write-ok (Toggle q x) ok = ok
     write-ok (Flag q x) ok = ok
 
-keep-applied : (a : Act) (s : State) (p : ℕ) (t : Task) (w : Write) → InRange s → p < s .n → Good s p a t w → InRange (applied (outcomeOf a) s p t w)
-keep-applied Moves s p t w r h g = keep-moved s p t w r h (g .0) (g .1)
-keep-applied Waits s p t w r h g = r
-keep-applied (Refuses k) s p t w r h g = r
+keep-applied : (a : Act) (closed : ℕ) (s : State) (p : ℕ) (t : Task) (w : Write) → InRange s → p < s .n → Good s p a t w
+    → InRange (applied (outcomeOf a closed) s p t w)
+keep-applied Moves closed s p t w r h g = keep-moved s p t w r h (g .0) (g .1)
+keep-applied Waits closed s p t w r h g = r
+keep-applied (Refuses k) closed s p t w r h g = r
 
 pub turn-valid : (s : State) (p : ℕ) → Valid s → Valid (turnOf s p .state)
 turn-valid s p ok =
     by-turn (λ r. Valid (r .state)) s p (λ k. ok)
-    (λ ok h. valid (stepOf s p .state) (subst InRange (sym (step-state s p)) (keep-applied (effectOf s p .act) s p (effectOf s p .task) (effectOf s p .write) (range s ok) h (good-effect s p (range s ok) h))))
+    (λ ok h. valid (stepOf s p .state) (subst InRange (sym (step-state s p)) (keep-applied (effectOf s p .act) _ s p (effectOf s p .task) (effectOf s p .write) (range s ok) h (good-effect s p (range s ok) h))))
 
 -- ---- the places that a turn reads and writes are tasks
 

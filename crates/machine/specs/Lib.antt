@@ -2,13 +2,14 @@
 pub mod Setters
 pub mod Fresh
 pub mod Range
+pub mod Least
 pub mod Turn
 pub mod Ready
-pub mod Least
 pub mod TurnLaws
 pub mod RangeLaws
 pub mod KeepLaws
 pub mod LeastLaws
 pub mod FreshLaws
 pub mod CountLaws
+pub mod RoundLaws
 pub mod ReadyLaws

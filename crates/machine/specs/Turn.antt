@@ -20,6 +20,7 @@ use Rattle.machine.specs.declared.Outcome.the-variants.{Made, Refused}
 use Rattle.machine.specs.declared.Turned.{Turned}
 use Rattle.machine.specs.Setters.{taskAt, withTask, withArrivals, withSense}
 use Rattle.machine.specs.Range.{tableOf, checkState}
+use Rattle.machine.specs.Least.{closedBy}
 
 -- what a line may read besides tasks and parents
 abbrev pub sharedOf : State → Shared
@@ -32,11 +33,12 @@ effectBy s p t = effectFrom (sharedOf s) (tableOf s) p t (taskAt s (t .looked))
 unfoldable pub effectOf : State → ℕ → Effect
 effectOf s p = effectBy s p (taskAt s p)
 
--- what a turn answers: "moved (its line was carried out), waited (its line is an await whose condition is false ..) or a refusal"
-abbrev pub outcomeOf : Act → Outcome
-outcomeOf Moves = Made Moved
-outcomeOf Waits = Made Waited
-outcomeOf (Refuses k) = Refused k
+-- what a turn answers: "moved (its line was carried out), waited (its line is an await whose condition is false ..) or a refusal".
+-- 02, P2: "The answer moved now carries" whether it closed a round; waited and refused carry nothing.
+abbrev pub outcomeOf : Act → ℕ → Outcome
+outcomeOf Moves closed = Made (Moved closed)
+outcomeOf Waits closed = Made Waited
+outcomeOf (Refuses k) closed = Refused k
 
 -- the state with a shared word written
 abbrev pub written : Write → State → State
@@ -46,9 +48,14 @@ written (Sense x) s = withSense s x
 written (Toggle q x) s = withTask s q (withToggle (taskAt s q) x)
 written (Flag q x) s = withTask s q (withFlag (taskAt s q) x)
 
--- what the outcome makes of the state: a move writes the own task, then the shared word; "a turn that waits changes nothing"
+-- the answer of a turn of p, by what its line does: a move writes the own task, then the shared word, and closes a round if the least
+-- count rises by that
+abbrev pub answerOf : State → ℕ → Effect → Outcome
+answerOf s p e = outcomeOf (e .act) (closedBy s (written (e .write) (withTask s p (e .task))))
+
+-- what the outcome makes of the state; "a turn that waits changes nothing"
 abbrev pub applied : Outcome → State → ℕ → Task → Write → State
-applied (Made Moved) s p t w = written w (withTask s p t)
+applied (Made (Moved closed)) s p t w = written w (withTask s p t)
 applied (Made Waited) s p t w = s
 applied (Refused k) s p t w = s
 
@@ -57,7 +64,7 @@ unfoldable pub stepOf : State → ℕ → Turned
 unfolding effectOf
 stepOf s p =
     let e = effectOf s p in
-    record { state = applied (outcomeOf (e .act)) s p (e .task) (e .write); outcome = outcomeOf (e .act) }
+    record { state = applied (answerOf s p e) s p (e .task) (e .write); outcome = answerOf s p e }
 
 -- a refused call "returns its number and the state it got"
 abbrev pub refusedTurn : State → ℕ → Turned
@@ -72,8 +79,13 @@ turnOf s p =
 
 -- the paper's numbers of an answer: 1 moved, 0 waited; the reason of a refusal, else 0
 abbrev pub moveNumber : Move → ℕ
-moveNumber Moved = 1
+moveNumber (Moved closed) = 1
 moveNumber Waited = 0
+
+-- and what the answer carries: 1 if the turn closed a round, 0 if it didn't, which is so for one that waited
+abbrev pub closedNumber : Move → ℕ
+closedNumber (Moved closed) = closed
+closedNumber Waited = 0
 
 abbrev pub reasonNumber : Outcome → ℕ
 reasonNumber (Made m) = 0
@@ -81,6 +93,6 @@ reasonNumber (Refused k) = k
 
 -- whether the answer is moved
 abbrev pub isMoved : Outcome → Bool
-isMoved (Made Moved) = true
+isMoved (Made (Moved closed)) = true
 isMoved (Made Waited) = false
 isMoved (Refused k) = false

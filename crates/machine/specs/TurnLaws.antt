@@ -34,7 +34,8 @@ use Rattle.machine.specs.declared.Outcome.the-variants.{Made, Refused}
 use Rattle.machine.specs.declared.Turned.{Turned}
 use Rattle.machine.specs.Setters.{taskAt, withTask, withTasks, withArrivals, withSense}
 use Rattle.machine.specs.Range.{tableOf, checkState, Valid}
-use Rattle.machine.specs.Turn.{sharedOf, effectOf, outcomeOf, written, applied, stepOf, refusedTurn, turnOf}
+use Rattle.machine.specs.Least.{closedBy}
+use Rattle.machine.specs.Turn.{sharedOf, effectOf, outcomeOf, written, answerOf, applied, stepOf, refusedTurn, turnOf}
 
 -- ---- by cases
 
@@ -94,30 +95,31 @@ module _ (s : State) (p : ℕ) where
 
 -- a step is what its effect makes of the state
 pub step-state : (s : State) (p : ℕ)
-    → stepOf s p .state ≡ applied (outcomeOf (effectOf s p .act)) s p (effectOf s p .task) (effectOf s p .write)
+    → stepOf s p .state ≡ applied (answerOf s p (effectOf s p)) s p (effectOf s p .task) (effectOf s p .write)
 unfolding stepOf
 step-state s p = refl
 
-pub step-outcome : (s : State) (p : ℕ) → stepOf s p .outcome ≡ outcomeOf (effectOf s p .act)
+pub step-outcome : (s : State) (p : ℕ) → stepOf s p .outcome ≡ answerOf s p (effectOf s p)
 unfolding stepOf
 step-outcome s p = refl
 
 -- a line's own outcome, from what the turn answers
-acts-move : (a : Act) → outcomeOf a ≡ Made Moved → a ≡ Moves
-acts-move Moves e = refl
-acts-move Waits e = cc
-acts-move (Refuses k) e = cc
+acts-move : (a : Act) (closed c : ℕ) → outcomeOf a closed ≡ Made (Moved c) → a ≡ Moves
+acts-move Moves closed c e = refl
+acts-move Waits closed c e = cc
+acts-move (Refuses k) closed c e = cc
 
 -- a turn is answered moved where its line moves
-pub turn-moves : (s : State) (p : ℕ) → Valid s → p < s .n → effectOf s p .act ≡ Moves → turnOf s p .outcome ≡ Made Moved
+pub turn-moves : (s : State) (p : ℕ) → Valid s → p < s .n → effectOf s p .act ≡ Moves
+    → turnOf s p .outcome ≡ Made (Moved (closedBy s (written (effectOf s p .write) (withTask s p (effectOf s p .task)))))
 turn-moves s p ok h e = rw (turn-step s p ok h, step-outcome s p, e)
 
-pub moved-acts : (s : State) (p : ℕ) → turnOf s p .outcome ≡ Made Moved → (p < s .n) × (effectOf s p .act ≡ Moves)
-moved-acts s p =
-    by-turn (λ r. r .outcome ≡ Made Moved → (p < s .n) × (effectOf s p .act ≡ Moves)) s p (λ k e. cc-absurd k e)
-    (λ ok h e. (h, acts-move (effectOf s p .act) (sym (step-outcome s p) ∙ e)))
+pub moved-acts : (s : State) (p c : ℕ) → turnOf s p .outcome ≡ Made (Moved c) → (p < s .n) × (effectOf s p .act ≡ Moves)
+moved-acts s p c =
+    by-turn (λ r. r .outcome ≡ Made (Moved c) → (p < s .n) × (effectOf s p .act ≡ Moves)) s p (λ k e. cc-absurd k e)
+    (λ ok h e. (h, acts-move (effectOf s p .act) _ c (sym (step-outcome s p) ∙ e)))
   where
-    cc-absurd : (k : ℕ) → Refused k ≡ Made Moved → (p < s .n) × (effectOf s p .act ≡ Moves)
+    cc-absurd : (k : ℕ) → Refused k ≡ Made (Moved c) → (p < s .n) × (effectOf s p .act ≡ Moves)
     cc-absurd k e = let z : _≡_ {A = ℕ} 0 1 = cc in absurd (omega arith)
 
 -- ---- what a turn leaves as it was
@@ -126,10 +128,10 @@ moved-acts s p =
 pub refused-still : (s : State) (p k : ℕ) → turnOf s p .outcome ≡ Refused k → turnOf s p .state ≡ s
 refused-still s p k =
     by-turn (λ r. r .outcome ≡ Refused k → r .state ≡ s) s p (λ j e. refl)
-    (λ ok h. unfold stepOf in go (outcomeOf (effectOf s p .act)))
+    (λ ok h. unfold stepOf in go (answerOf s p (effectOf s p)))
   where
     go : (o : Outcome) → o ≡ Refused k → applied o s p (effectOf s p .task) (effectOf s p .write) ≡ s
-    go (Made Moved) e = let z : _≡_ {A = ℕ} 0 1 = cc in absurd (omega arith)
+    go (Made (Moved c)) e = let z : _≡_ {A = ℕ} 0 1 = cc in absurd (omega arith)
     go (Made Waited) e = refl
     go (Refused j) e = refl
 
@@ -137,10 +139,10 @@ refused-still s p k =
 pub waited-still : (s : State) (p : ℕ) → turnOf s p .outcome ≡ Made Waited → turnOf s p .state ≡ s
 waited-still s p =
     by-turn (λ r. r .outcome ≡ Made Waited → r .state ≡ s) s p (λ j e. refl)
-    (λ ok h. unfold stepOf in go (outcomeOf (effectOf s p .act)))
+    (λ ok h. unfold stepOf in go (answerOf s p (effectOf s p)))
   where
     go : (o : Outcome) → o ≡ Made Waited → applied o s p (effectOf s p .task) (effectOf s p .write) ≡ s
-    go (Made Moved) e = let z : _≡_ {A = ℕ} 0 1 = cc in absurd (omega arith)
+    go (Made (Moved c)) e = let z : _≡_ {A = ℕ} 0 1 = cc in absurd (omega arith)
     go (Made Waited) e = refl
     go (Refused j) e = refl
 
@@ -165,12 +167,31 @@ stored s p e =
       tasks = set tasks (placeOf (e .write) p) (taskAfter (e .write) (getD tasks (placeOf (e .write) p) zeroTask));
     }
 
+-- the state after a turn's stores, one after the other
+pub stored-is : (state : State) (p : ℕ) (e : Effect) (arrivals sense place : ℕ) (there : Task)
+    → arrivals ≡ arrivalsAfter (e .write) (state .arrivals) → sense ≡ senseAfter (e .write) (state .sense) → place ≡ placeOf (e .write) p
+    → there ≡ taskAfter (e .write) (getD (set (state .tasks) p (e .task)) place zeroTask)
+    → record {
+      kind = state .kind;
+      n = state .n;
+      modulus = state .modulus;
+      arrivals = arrivals;
+      sense = sense;
+      parents = state .parents;
+      tasks = set (set (state .tasks) p (e .task)) place there;
+    }
+    ≡ stored state p e
+stored-is state p e arrivals sense place there ea es ep et = rw (et, ep, ea, es)
+
 stored-move : (w : Write) (s : State) (p : ℕ) (u : Task) → written w (withTask s p u) ≡ stored s p (moves u w)
 stored-move Nothing s p u = ap (withTasks s) (sym (set-getD (set (s .tasks) p u) p zeroTask))
 stored-move (Arrivals x) s p u = ap (λ (ts : List Task). withArrivals (withTasks s ts) x) (sym (set-getD (set (s .tasks) p u) p zeroTask))
 stored-move (Sense x) s p u = ap (λ (ts : List Task). withSense (withTasks s ts) x) (sym (set-getD (set (s .tasks) p u) p zeroTask))
 stored-move (Toggle q x) s p u = refl
 stored-move (Flag q x) s p u = refl
+
+pub stored-written : (s : State) (p : ℕ) (e : Effect) → stored s p e ≡ written (e .write) (withTask s p (e .task))
+stored-written s p e = sym (stored-move (e .write) s p (e .task))
 
 -- a wait's effect has the task that stood there, and writes nothing
 stored-stays : (s : State) (p : ℕ) → s ≡ stored s p (waits (taskAt s p))
@@ -188,14 +209,13 @@ stored-own s p e = go (e .write)
     go (Flag q x) none = absurd (true≢false none)
 
 -- a turn that is made stores all that its effect has
-pub step-made : (s : State) (p : ℕ) (how : Move) → outcomeOf (effectOf s p .act) ≡ Made how
-    → stepOf s p ≡ record { state = stored s p (effectOf s p); outcome = outcomeOf (effectOf s p .act) }
+pub step-made : (s : State) (p : ℕ) (how : Move) → answerOf s p (effectOf s p) ≡ Made how
+    → stepOf s p ≡ record { state = stored s p (effectOf s p); outcome = answerOf s p (effectOf s p) }
 unfolding stepOf
 step-made s p how made =
-    ap (λ (x : State). record { state = x; outcome = outcomeOf (effectOf s p .act) }) (go (effectOf s p) (effect-does s p) made)
+    ap (λ (x : State). record { state = x; outcome = answerOf s p (effectOf s p) }) (go (effectOf s p) (effect-does s p) made)
   where
-    go : (e : Effect) → Does (sharedOf s) (taskAt s p) e → outcomeOf (e .act) ≡ Made how
-        → applied (outcomeOf (e .act)) s p (e .task) (e .write) ≡ stored s p e
+    go : (e : Effect) → Does (sharedOf s) (taskAt s p) e → answerOf s p e ≡ Made how → applied (answerOf s p e) s p (e .task) (e .write) ≡ stored s p e
     go _ (keeps {u} {w} c) m = stored-move w s p u
     go _ (raises {u} {w} l c) m = stored-move w s p u
     go _ stays m = stored-stays s p
@@ -203,16 +223,16 @@ step-made s p how made =
     go _ (refused-11 l) m = let z : _≡_ {A = ℕ} 0 1 = cc in absurd (omega arith)
 
 -- a turn that is refused leaves the state
-pub step-refused : (s : State) (p k : ℕ) → outcomeOf (effectOf s p .act) ≡ Refused k → stepOf s p ≡ refusedTurn s k
+pub step-refused : (s : State) (p k : ℕ) → answerOf s p (effectOf s p) ≡ Refused k → stepOf s p ≡ refusedTurn s k
 unfolding stepOf
 step-refused s p k e = rw e
 
 -- the two for a turn: what it is, by its line's outcome
 module _ (s : State) (p : ℕ) (ok : Valid s) (h : p < s .n) where
-  pub turn-made : (how : Move) → outcomeOf (effectOf s p .act) ≡ Made how → turnOf s p ≡ record { state = stored s p (effectOf s p); outcome = Made how }
+  pub turn-made : (how : Move) → answerOf s p (effectOf s p) ≡ Made how → turnOf s p ≡ record { state = stored s p (effectOf s p); outcome = Made how }
   turn-made how e = turn-step s p ok h ∙ step-made s p how e ∙ ap (λ (o : Outcome). record { state = stored s p (effectOf s p); outcome = o }) e
 
-  pub turn-refused : (k : ℕ) → outcomeOf (effectOf s p .act) ≡ Refused k → turnOf s p ≡ refusedTurn s k
+  pub turn-refused : (k : ℕ) → answerOf s p (effectOf s p) ≡ Refused k → turnOf s p ≡ refusedTurn s k
   turn-refused k e = turn-step s p ok h ∙ step-refused s p k e
 
 -- ---- what a turn never changes
@@ -234,15 +254,19 @@ constants-written (Sense x) s p t = record { kind = refl; n = refl; modulus = re
 constants-written (Toggle q x) s p t = record { kind = refl; n = refl; modulus = refl; parents = refl }
 constants-written (Flag q x) s p t = record { kind = refl; n = refl; modulus = refl; parents = refl }
 
+-- so N is the same once a move is stored
+pub moved-n : (s : State) (p : ℕ) (t : Task) (w : Write) → written w (withTask s p t) .n ≡ s .n
+moved-n s p t w = constants-written w s p t .n
+
 constants-applied : (o : Outcome) (s : State) (p : ℕ) (t : Task) (w : Write) → Constants s (applied o s p t w)
-constants-applied (Made Moved) s p t w = constants-written w s p t
+constants-applied (Made (Moved c)) s p t w = constants-written w s p t
 constants-applied (Made Waited) s p t w = constants-refl s
 constants-applied (Refused k) s p t w = constants-refl s
 
 pub turn-constants : (s : State) (p : ℕ) → Constants s (turnOf s p .state)
 turn-constants s p =
     by-turn (λ r. Constants s (r .state)) s p (λ k. constants-refl s)
-    (λ ok h. rw (step-state s p) (constants-applied (outcomeOf (effectOf s p .act)) s p (effectOf s p .task) (effectOf s p .write)))
+    (λ ok h. rw (step-state s p) (constants-applied (answerOf s p (effectOf s p)) s p (effectOf s p .task) (effectOf s p .write)))
 
 -- ---- the tasks after a store
 
@@ -283,7 +307,7 @@ module _ {A : Type 0} (f : Task → A) where
 -- ---- a task's start
 
 start-applied : (o : Outcome) (s : State) (p q : ℕ) (t : Task) (w : Write) → t .start ≡ taskAt s p .start → taskAt (applied o s p t w) q .start ≡ taskAt s q .start
-start-applied (Made Moved) s p q t w e = written-field start (λ x y. (refl, refl)) w (withTask s p t) q ∙ put-field start s p q t e
+start-applied (Made (Moved c)) s p q t w e = written-field start (λ x y. (refl, refl)) w (withTask s p t) q ∙ put-field start s p q t e
   where
     start : Task → ℕ
     start x = x .start
@@ -295,7 +319,7 @@ pub turn-start : (s : State) (p q : ℕ) → taskAt (turnOf s p .state) q .start
 unfolding effectOf
 turn-start s p q =
     by-turn (λ r. taskAt (r .state) q .start ≡ taskAt s q .start) s p (λ k. refl)
-    (λ ok h. rw (step-state s p) (start-applied (outcomeOf (effectOf s p .act)) s p q (effectOf s p .task) (effectOf s p .write) kept))
+    (λ ok h. rw (step-state s p) (start-applied (answerOf s p (effectOf s p)) s p q (effectOf s p .task) (effectOf s p .write) kept))
   where
     kept : effectOf s p .task .start ≡ taskAt s p .start
     kept = start-kept (sharedOf s) (tableOf s) p (taskAt s p) (taskAt s (taskAt s p .looked)) .start

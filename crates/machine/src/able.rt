@@ -19,7 +19,7 @@ impl State {
         while q < n {
             let effect = self.effect(q);
             let act = effect.act;
-            if turn::is_moved(Outcome::of(act)) {
+            if turn::is_moved(Outcome::of(act, 0)) {
                 return Ready::Task(q);
             }
             q += 1;

@@ -4,6 +4,7 @@
 mod able;
 mod initial;
 mod range;
+mod rounds;
 mod turn;
 
 use lines::Task;
@@ -20,9 +21,9 @@ pub struct State {
     pub tasks: [Task; 64],
 }
 
-// What a turn that is not refused did.
+// What a turn that is not refused did. A move carries 1 if it closed a round, that is if the least count rose in that turn, else 0.
 pub enum Move {
-    Moved,
+    Moved(u8),
     Waited,
 }
 

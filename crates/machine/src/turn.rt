@@ -18,7 +18,7 @@ pub(crate) fn is_moved(outcome: Outcome) -> bool
 {
     match outcome {
         Outcome::Made(how) => match how {
-            Move::Moved => true,
+            Move::Moved(_) => true,
             Move::Waited => false,
         },
         Outcome::Refused(_) => false,
@@ -26,12 +26,12 @@ pub(crate) fn is_moved(outcome: Outcome) -> bool
 }
 
 impl Outcome {
-    // What a turn answers, by its line's own outcome.
-    pub fn of(act: Act) -> Outcome
-        ensures { λ r. ⌜ r ≡ defs.outcomeOf act ⌝ }
+    // What a turn answers, by its line's own outcome, and whether a move closes a round.
+    pub fn of(act: Act, closed: u8) -> Outcome
+        ensures { λ r. ⌜ r ≡ defs.outcomeOf act closed ⌝ }
     {
         match act {
-            Act::Moves => Outcome::Made(Move::Moved),
+            Act::Moves => Outcome::Made(Move::Moved(closed)),
             Act::Waits => Outcome::Made(Move::Waited),
             Act::Refuses(reason) => Outcome::Refused(reason),
         }
@@ -69,14 +69,15 @@ impl State {
     {
         let effect = self.effect(task);
         let act = effect.act;
-        let outcome = Outcome::of(act);
+        let next = effect.task;
+        let closed = self.closes(task, next.count);
+        let outcome = Outcome::of(act, closed);
         let Outcome::Made(_) = outcome else {
             return Turned {
                 state: self,
                 outcome,
             };
         };
-        let next = effect.task;
         let write = effect.write;
         self.tasks[task] = next;
         self.arrivals = write.arrivals(self.arrivals);

@@ -1,27 +1,36 @@
--- The loop of a run, after i turns that nothing stopped: the state, the tallies and the log are those of the trace so far.
+-- The loop of a run, after i turns that nothing stopped: the state, the tallies and the log are those of the trace so far, and the counts and
+-- the least of them are the state's.
 use mathlib.Core.Path.{_≡_, refl, sym, ap, _∙_, subst}
 use mathlib.Core.Bool.{true}
 use mathlib.Core.List.{List, [], _∷_, _++_, append-nil, append-assoc}
 use Prim.Native.Nat.{ℕ, suc, _+_, _-_, _*_, _≤_, _<_}
+use native.Mathlib.Decide.{ℕ-discrete}
 use native.Mathlib.Numerals.{add-one}
 use native.Mathlib.Omega.{arith}
-use lib.ListN.{length, getD, take, drop, set, replicate, length-append, length-drop}
-use lib.Seq.{take-suc, take-at, drop-at, take-length, drop-length, drop-drop, take-add, drop-cons}
+use lib.ListN.{length, getD, take, drop, set, replicate, length-append, length-drop, length-set}
+use lib.Seq.{getD-take, length-take-le, getD-set-same, getD-set-other, take-suc, take-at, drop-at, take-length, drop-length, drop-drop, take-add, drop-cons}
 use borrow.Author.Tests.{eq-eqb, ne-eqb}
 use borrow.Rule.Slice.PartMut.{putMid}
 use Rattle.lines.specs.declared.Effect.{Effect}
 use Rattle.lines.specs.declared.Task.{Task}
 use Rattle.lines.specs.Setters.{zeroTask}
 use Rattle.lines.specs.Rule.{effectFrom}
-use Rattle.lines.specs.Words.{arrivalsAfter, senseAfter, placeOf, taskAfter}
+use Rattle.lines.specs.Words.{placeOf}
+use Rattle.counts.specs.declared.Least.{Least}
+use Rattle.counts.specs.Counts.{lowest, leastOf, closesOf}
+use Rattle.counts.specs.CountsLaws.{KeptOrRaised, least-same}
 use Rattle.machine.specs.declared.State.{State}
 use Rattle.machine.specs.declared.Move.{Move}
 use Rattle.machine.specs.declared.Move.the-variants.{Moved, Waited}
 use Rattle.machine.specs.declared.Turned.{Turned}
 use Rattle.machine.specs.declared.Outcome.the-variants.{Made, Refused}
-use Rattle.machine.specs.Setters.{taskAt}
+use Rattle.machine.specs.Setters.{taskAt, withTask}
 use Rattle.machine.specs.Range.{Valid, tableOf}
-use Rattle.machine.specs.Turn.{sharedOf, effectOf, outcomeOf, turnOf, moveNumber}
+use Rattle.machine.specs.Least.{countOf, countsOf, closedBy}
+use Rattle.machine.specs.Least as count
+use Rattle.machine.specs.LeastLaws.{least-is}
+use Rattle.machine.specs.RoundLaws.{lent-there, kept-or-raised, closed-is, own-after, other-after}
+use Rattle.machine.specs.Turn.{sharedOf, effectOf, outcomeOf, written, answerOf, turnOf, moveNumber}
 use Rattle.machine.specs.TurnLaws.{effect-rule, stored, turn-made, turn-refused, turn-constants}
 use Rattle.machine.specs.KeepLaws.{turn-valid, looked-known, place-known}
 use Rattle.machine.specs.RangeLaws.{range}
@@ -31,28 +40,77 @@ use Rattle.schedule.specs.Passes.{allTasks}
 use Rattle.schedule.specs.PassesLaws.{all-known}
 use Rattle.runner.specs.Trace.{Row, Trace, nothing, refusal, traceOf}
 use Rattle.runner.specs.TraceLaws.{trace-made, trace-stopped}
-use Rattle.runner.specs.RunLaws.{tally-more, tally-few, length-log, log-more}
+use Rattle.runner.specs.RunLaws.{tally-more, tally-few, length-log, log-more, trace-rounds}
 use Rattle.runner.specs.declared.Ending.{Ending}
 use Rattle.runner.specs.declared.Ending.the-variants.{Stopped}
-use Rattle.runner.specs.Run.{ranOf, tallyIn, movesIn, waitsIn, waitNumber, logOf, loggedOf}
+use Rattle.runner.specs.Run.{ranOf, tallyIn, movesIn, waitsIn, waitNumber, roundsIn, logOf, loggedOf}
 
-pub record Going (s : State) (schedule log₀ : List ℕ) (i : ℕ) (state : State) (moves waits log : List ℕ) : Type 0 where
+-- the counts of the n tasks of a state, in a list
+pub record Counted (n : ℕ) (counts : List ℕ) (state : State) : Type 0 where
+  pub long : length counts ≡ n
+  pub at : (q : ℕ) → q < n → getD counts q 0 ≡ countOf state q
+
+-- the least of them
+counted-least : {n : ℕ} {counts : List ℕ} {state : State} → Counted n counts state → 0 < n
+    → leastOf (λ q. getD counts q 0) (length counts) ≡ leastOf (countOf state) n
+counted-least {n} {counts} {state} k some =
+    rw (k .long) (least-same (countOf state) (λ q. getD counts q 0) n some (k .at))
+
+-- what the loop carries besides the state
+pub record Held : Type 0 where
+  pub moves : List ℕ
+  pub waits : List ℕ
+  pub counts : List ℕ
+  pub least : Least
+
+pub record Going (s : State) (schedule log₀ : List ℕ) (i : ℕ) (state : State) (held : Held) (log : List ℕ) : Type 0 where
   pub on : traceOf s (take i schedule) .stop ≡ nothing
   pub here : traceOf s (take i schedule) .state ≡ state
   pub many : length (traceOf s (take i schedule) .made) ≡ i
-  pub moved : moves ≡ table 64 (movesIn (traceOf s (take i schedule) .made))
-  pub waited : waits ≡ table 64 (waitsIn (traceOf s (take i schedule) .made))
+  pub moved : held .moves ≡ table 64 (movesIn (traceOf s (take i schedule) .made))
+  pub waited : held .waits ≡ table 64 (waitsIn (traceOf s (take i schedule) .made))
   pub logged : log ≡ loggedOf (traceOf s (take i schedule)) log₀
   pub valid : Valid state
   pub tasks : state .n ≡ s .n
   pub parents : state .parents ≡ s .parents
+  pub counted : Counted (s .n) (held .counts) state
+  pub lowest : held .least ≡ leastOf (countOf state) (s .n)
+
+-- the counts as they are lent
+counted-lent : (s : State) (counts : List ℕ) → Valid s → counts ≡ take (s .n) (countsOf s) → Counted (s .n) counts s
+counted-lent s counts ok lent =
+    let few = range s ok .few in
+    record {
+      long = ap length lent ∙ length-take-le (s .n) (countsOf s) (lent-there s (s .n) few (countsOf s) refl);
+      at = λ q h. ap (λ (l : List ℕ). getD l q 0) lent ∙ getD-take (s .n) (countsOf s) q 0 h ∙ table-at 64 (countOf s) q 0 (omega arith);
+    }
 
 -- before the first turn
-pub going-none : (s : State) (schedule log₀ : List ℕ) → Valid s → Going s schedule log₀ 0 s (replicate 64 0) (replicate 64 0) log₀
+pub going-none : (s : State) (schedule log₀ counts : List ℕ) (least : Least) → Valid s → counts ≡ take (s .n) (countsOf s)
+    → least ≡ leastOf (λ q. getD counts q 0) (length counts)
+    → Going s schedule log₀ 0 s (record { moves = replicate 64 0; waits = replicate 64 0; counts = counts; least = least }) log₀
 unfolding traceOf tallyIn logOf
-going-none s schedule log₀ ok =
+going-none s schedule log₀ counts least ok lent e =
     let none : replicate {A = ℕ} 64 0 ≡ table 64 (λ q. 0) = sym (table-same-value 64 0) in
-    record { on = refl; here = refl; many = refl; moved = none; waited = none; logged = refl; valid = ok; tasks = refl; parents = refl }
+    record {
+      on = refl;
+      here = refl;
+      many = refl;
+      moved = none;
+      waited = none;
+      logged = refl;
+      valid = ok;
+      tasks = refl;
+      parents = refl;
+      counted = counted-lent s counts ok lent;
+      lowest = e ∙ counted-least (counted-lent s counts ok lent) (range s ok .some);
+    }
+
+-- the least count before the first turn
+pub first-least : (s : State) (counts : List ℕ) (least : Least) → Valid s → counts ≡ take (s .n) (countsOf s)
+    → least ≡ leastOf (λ q. getD counts q 0) (length counts) → least .count ≡ count.least s
+first-least s counts least ok lent e =
+    ap (λ (l : Least). l .count) (going-none s [] [] counts least ok lent e .lowest) ∙ sym (least-is s)
 
 -- two bytes written to the tail of a log, as a part that was lent comes back
 rowed : (before tail : List ℕ) (k x y : ℕ) → length before ≡ k → 2 ≤ length tail
@@ -79,35 +137,19 @@ tallied weight rs r h =
     own p e =
         rw (tally-more weight rs r p, eq-eqb (r .task) p (sym e), table-at 64 (tallyIn weight rs) p 0 (rw e h))
 
--- the state after a turn's stores, one after the other
-pub stored-is : (state : State) (p : ℕ) (e : Effect) (arrivals sense place : ℕ) (there : Task)
-    → arrivals ≡ arrivalsAfter (e .write) (state .arrivals) → sense ≡ senseAfter (e .write) (state .sense) → place ≡ placeOf (e .write) p
-    → there ≡ taskAfter (e .write) (getD (set (state .tasks) p (e .task)) place zeroTask)
-    → record {
-      kind = state .kind;
-      n = state .n;
-      modulus = state .modulus;
-      arrivals = arrivals;
-      sense = sense;
-      parents = state .parents;
-      tasks = set (set (state .tasks) p (e .task)) place there;
-    }
-    ≡ stored state p e
-stored-is state p e arrivals sense place there ea es ep et = rw (et, ep, ea, es)
-
 -- what a turn's byte can be
 move-le : (how : Move) → moveNumber how ≤ 1
-move-le Moved = omega arith
+move-le (Moved c) = omega arith
 move-le Waited = omega arith
 
 wait-number : (how : Move) → 1 - moveNumber how ≡ waitNumber how
-wait-number Moved = refl
+wait-number (Moved c) = refl
 wait-number Waited = refl
 
 pub byte-le : (how : Move) (byte : ℕ) → byte ≡ moveNumber how → byte ≤ 1
 byte-le how byte e = omega (arith, move-le how)
 
-module _ {s : State} {schedule log₀ : List ℕ} {i : ℕ} {state : State} {moves waits log : List ℕ} (g : Going s schedule log₀ i state moves waits log) where
+module _ {s : State} {schedule log₀ : List ℕ} {i : ℕ} {state : State} {held : Held} {log : List ℕ} (g : Going s schedule log₀ i state held log) where
   -- the trace so far
   abbrev so-far : Trace
   so-far = traceOf s (take i schedule)
@@ -118,6 +160,10 @@ module _ {s : State} {schedule log₀ : List ℕ} {i : ℕ} {state : State} {mov
       let made : List Row = so-far .made in
       ap length (g .logged)
       ∙ omega (arith, length-append (logOf made) (drop (2 * length made) log₀), length-log made, length-drop (2 * length made) log₀, g .many)
+
+  -- and so do the counts
+  pub counts-long : (counts₀ : List ℕ) → Valid s → counts₀ ≡ take (s .n) (countsOf s) → length (held .counts) ≡ length counts₀
+  counts-long counts₀ ok lent = g .counted .long ∙ sym (counted-lent s counts₀ ok lent .long)
 
   -- no tally is more than the turns so far
   tally-room : (weight : Move → ℕ) → ((how : Move) → weight how ≤ 1) → (tallies : List ℕ) (p : ℕ)
@@ -131,16 +177,30 @@ module _ {s : State} {schedule log₀ : List ℕ} {i : ℕ} {state : State} {mov
         g .many,
       )
 
-  pub moves-room : (p : ℕ) → p < 64 → getD moves p 0 ≤ i
-  moves-room p h = tally-room moveNumber move-le moves p (g .moved) h
+  pub moves-room : (p : ℕ) → p < 64 → getD (held .moves) p 0 ≤ i
+  moves-room p h = tally-room moveNumber move-le (held .moves) p (g .moved) h
 
-  pub waits-room : (p : ℕ) → p < 64 → getD waits p 0 ≤ i
-  waits-room p h = tally-room waitNumber (λ how. omega (arith, wait-number how)) waits p (g .waited) h
+  pub waits-room : (p : ℕ) → p < 64 → getD (held .waits) p 0 ≤ i
+  waits-room p h = tally-room waitNumber (λ how. omega (arith, wait-number how)) (held .waits) p (g .waited) h
+
+  -- the least count now, and the rounds closed since the first turn
+  now-least : held .least .count ≡ count.least s + roundsIn (so-far .made)
+  now-least =
+      ap (λ (l : Least). l .count) (g .lowest) ∙ ap (λ (k : ℕ). lowest (countOf state) (k - 1)) (sym (g .tasks)) ∙ sym (least-is state)
+      ∙ ap count.least (sym (g .here)) ∙ trace-rounds s (take i schedule)
+
+  pub least-up : (before : ℕ) → before ≡ count.least s → before ≤ held .least .count
+  least-up before e = omega (arith, now-least)
+
+  rounds-now : (before : ℕ) → before ≡ count.least s → held .least .count - before ≡ roundsIn (so-far .made)
+  rounds-now before e = omega (arith, now-least)
 
   -- what the run answers where no turn is refused
-  pub finished : (end : Ending)
-      → (record { state = state; ending = end; turns = i; moves = moves; waits = waits } ≡ ranOf so-far end) × (log ≡ loggedOf so-far log₀)
-  finished end = (rw (g .on, g .here, g .many, ← g .moved, ← g .waited), g .logged)
+  pub finished : (end : Ending) (before turns : ℕ) → before ≡ count.least s → i ≡ turns
+      → (record { state = state; ending = end; turns = turns; rounds = held .least .count - before; moves = held .moves; waits = held .waits }
+      ≡ ranOf (traceOf s (take turns schedule)) end)
+      × (log ≡ loggedOf (traceOf s (take turns schedule)) log₀)
+  finished end before turns e all = rw (← all) (rw (g .on, g .here, g .many, rounds-now before e, ← g .moved, ← g .waited), g .logged)
 
   -- what a task does, by the table of the first state
   pub effect-is : (parents : List ℕ) → parents ≡ tableOf s → (p : ℕ) (e : Effect)
@@ -148,13 +208,13 @@ module _ {s : State} {schedule log₀ : List ℕ} {i : ℕ} {state : State} {mov
   effect-is parents same p e does = does ∙ rw (effect-rule state p, same, g .tasks, g .parents)
 
 -- and a turn is next, of a schedule that names tasks only
-pub record Next (s : State) (schedule log₀ : List ℕ) (i : ℕ) (state : State) (moves waits log : List ℕ) : Type 0 where
-  pub going : Going s schedule log₀ i state moves waits log
+pub record Next (s : State) (schedule log₀ : List ℕ) (i : ℕ) (state : State) (held : Held) (log : List ℕ) : Type 0 where
+  pub going : Going s schedule log₀ i state held log
   pub all : allTasks (s .n) schedule ≡ true
   pub less : i < length schedule
 
-module _ {s : State} {schedule log₀ : List ℕ} {i : ℕ} {state : State} {moves waits log : List ℕ} (next : Next s schedule log₀ i state moves waits log) where
-  abbrev g : Going s schedule log₀ i state moves waits log
+module _ {s : State} {schedule log₀ : List ℕ} {i : ℕ} {state : State} {held : Held} {log : List ℕ} (next : Next s schedule log₀ i state held log) where
+  abbrev g : Going s schedule log₀ i state held log
   g = next .going
 
   -- the turn's task, and the turns made before it
@@ -174,16 +234,40 @@ module _ {s : State} {schedule log₀ : List ℕ} {i : ℕ} {state : State} {mov
   pub seen-there : taskAt state p .looked < 64
   seen-there = omega (arith, looked-known state p (g .valid) known, range state (g .valid) .few)
 
+  -- its count is the one in the list
+  pub count-there : p < length (held .counts)
+  count-there = rw (g .counted .long, ← g .tasks) known
+
+  own-count : getD (held .counts) p 0 ≡ countOf state p
+  own-count = g .counted .at p (rw (← g .tasks) known)
+
+  pub least-there : held .least ≡ leastOf (λ q. getD (held .counts) q 0) (length (held .counts))
+  least-there = g .lowest ∙ sym (counted-least (g .counted) (rw (← g .tasks) (range state (g .valid) .some)))
+
   module _ (e : Effect) (does : e ≡ effectOf state p) where
+    -- what the turn answers, by whether it closes a round
+    pub answer-is : (closed : ℕ) → closed ≡ closesOf (held .least) (taskAt state p .count) (e .task .count) → outcomeOf (e .act) closed ≡ answerOf state p e
+    answer-is closed c =
+        ap (outcomeOf (e .act))
+        (c ∙ ap (λ (l : Least). closesOf l (countOf state p) (e .task .count)) (g .lowest ∙ ap (leastOf (countOf state)) (sym (g .tasks)))
+        ∙ subst (λ (x : Effect). closesOf (leastOf (countOf state) (state .n)) (countOf state p) (x .task .count) ≡ closedBy state (written (x .write) (withTask state p (x .task))))
+        (sym does) (closed-is state p (g .valid) known))
+
+    -- its count stays or rises by one
+    pub count-rises : KeptOrRaised (getD (held .counts) p 0) (e .task .count)
+    count-rises = rw (own-count, does) (kept-or-raised state p)
+
     -- the task that it writes to is there
     pub place-there : placeOf (e .write) p < 64
     place-there = rw does (omega (arith, place-known state p (g .valid) known, range state (g .valid) .few))
 
     -- what the run answers where it is refused
-    pub stopped : (end : Ending) (k reason turns : ℕ) → outcomeOf (e .act) ≡ Refused k → reason ≡ k → i < turns
-        → (record { state = state; ending = Stopped reason; turns = i; moves = moves; waits = waits } ≡ ranOf (traceOf s (take turns schedule)) end)
+    pub stopped : (end : Ending) (k reason turns before : ℕ) → answerOf state p e ≡ Refused k → reason ≡ k → i < turns → before ≡ count.least s
+        → (record { state = state; ending = Stopped reason; turns = i; rounds = held .least .count - before; moves = held .moves; waits = held .waits }
+        ≡ ranOf (traceOf s (take turns schedule)) end)
         × (log ≡ loggedOf (traceOf s (take turns schedule)) log₀)
-    stopped end k reason turns refused q h = (rw (stop, q, g .many, ← g .moved, ← g .waited), rw stop (g .logged))
+    stopped end k reason turns before refused q h first =
+        (rw (stop, q, g .many, rounds-now g before first, ← g .moved, ← g .waited), rw stop (g .logged))
       where
         us : List ℕ
         us = take (turns - i - 1) (drop (suc i) schedule)
@@ -204,7 +288,7 @@ module _ {s : State} {schedule log₀ : List ℕ} {i : ℕ} {state : State} {mov
             (g .here) (trace-stopped s (take i schedule) p (g .on) k us (rw (g .here) answer))
 
     -- what the loop holds after it where it is made
-    module _ (how : Move) (made : outcomeOf (e .act) ≡ Made how) where
+    module _ (how : Move) (made : answerOf state p e ≡ Made how) where
       abbrev row : Row
       row = record { task = p; line = taskAt state p .line; how = how }
 
@@ -229,13 +313,34 @@ module _ {s : State} {schedule log₀ : List ℕ} {i : ℕ} {state : State} {mov
           (omega (arith, length-log rows)) (omega (arith, length-drop (2 * length rows) log₀))
           ∙ rw (drop-drop, more, log-more, append-assoc)
 
-      pub goes-on : (byte : ℕ) (state′ : State) (moves′ waits′ tail : List ℕ) → byte ≡ moveNumber how → 2 * i + 2 ≤ length log₀
+      -- the counts after it
+      counted-more : Counted (s .n) (set (held .counts) p (e .task .count)) (turnOf state p .state)
+      counted-more =
+          record {
+            long = length-set (held .counts) p (e .task .count) ∙ g .counted .long;
+            at = λ q h. at q h (ℕ-discrete q p);
+          }
+        where
+          answer : turnOf state p .outcome ≡ Made how
+          answer = ap (λ (r : Turned). r .outcome) turn
+
+          at : (q : ℕ) → q < s .n → Dec (q ≡ p) → getD (set (held .counts) p (e .task .count)) q 0 ≡ countOf (turnOf state p .state) q
+          at q h (yes same) =
+              rw same
+              (getD-set-same (held .counts) p (e .task .count) 0 count-there ∙ ap (λ (x : Effect). x .task .count) does
+              ∙ sym (own-after state p (g .valid) known how answer))
+          at q h (no ne) =
+              getD-set-other (held .counts) p q (e .task .count) 0 ne ∙ g .counted .at q h ∙ sym (other-after state p (g .valid) known how answer q ne)
+
+      pub goes-on : (byte : ℕ) (state′ : State) (moves′ waits′ counts′ : List ℕ) (least′ : Least) (tail : List ℕ) → byte ≡ moveNumber how → 2 * i + 2 ≤ length log₀
           → state′ ≡ stored state p e
-          → moves′ ≡ set moves p (getD moves p 0 + byte)
-          → waits′ ≡ set waits p (getD waits p 0 + (1 - byte))
+          → moves′ ≡ set (held .moves) p (getD (held .moves) p 0 + byte)
+          → waits′ ≡ set (held .waits) p (getD (held .waits) p 0 + (1 - byte))
+          → counts′ ≡ set (held .counts) p (e .task .count)
+          → least′ ≡ leastOf (λ q. getD counts′ q 0) (length (held .counts))
           → tail ≡ set (set (take (length log - 2 * i) (drop (2 * i) log)) 0 (taskAt state p .line)) 1 byte
-          → Going s schedule log₀ (i + 1) state′ moves′ waits′ (putMid (2 * i) (length log - 2 * i) log tail)
-      goes-on byte state′ moves′ waits′ tail eb room es em ew et =
+          → Going s schedule log₀ (i + 1) state′ (record { moves = moves′; waits = waits′; counts = counts′; least = least′ }) (putMid (2 * i) (length log - 2 * i) log tail)
+      goes-on byte state′ moves′ waits′ counts′ least′ tail eb room es em ew ec el et =
           rw (em, ew, et, eb, wait-number how, es, ← ap (λ (r : Turned). r .state) turn)
           (record {
             on = ap (λ (t : Trace). t .stop) with-one;
@@ -247,4 +352,11 @@ module _ {s : State} {schedule log₀ : List ℕ} {i : ℕ} {state : State} {mov
             valid = turn-valid state p (g .valid);
             tasks = turn-constants state p .n ∙ g .tasks;
             parents = turn-constants state p .parents ∙ g .parents;
+            counted = after;
+            lowest =
+                el ∙ ap (leastOf (λ q. getD counts′ q 0)) (g .counted .long ∙ sym (after .long))
+                ∙ counted-least after (rw (← g .tasks) (range state (g .valid) .some));
           })
+        where
+          after : Counted (s .n) counts′ (turnOf state p .state)
+          after = rw ec counted-more

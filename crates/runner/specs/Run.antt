@@ -9,7 +9,7 @@ use Rattle.machine.specs.declared.State.{State}
 use Rattle.machine.specs.declared.Move.{Move}
 use Rattle.machine.specs.declared.Move.the-variants.{Moved, Waited}
 use Rattle.machine.specs.Range.{checkState}
-use Rattle.machine.specs.Turn.{moveNumber}
+use Rattle.machine.specs.Turn.{moveNumber, closedNumber}
 use Rattle.schedule.specs.Passes.{maxTurns, unknownAt, allTasks}
 use Rattle.runner.specs.declared.Ending.{Ending}
 use Rattle.runner.specs.declared.Ending.the-variants.{Done, Spent, Stopped, Refused}
@@ -18,7 +18,7 @@ use Rattle.runner.specs.Trace.{Row, Stop, nothing, refusal, Trace, trace
 
 -- 1 for a turn that waited, 0 for one that moved
 abbrev pub waitNumber : Move → ℕ
-waitNumber Moved = 0
+waitNumber (Moved closed) = 0
 waitNumber Waited = 1
 
 -- the turns made that named task q, each counted as `weight` says
@@ -32,6 +32,11 @@ movesIn rs q = tallyIn moveNumber rs q
 
 abbrev pub waitsIn : List Row → ℕ → ℕ
 waitsIn rs q = tallyIn waitNumber rs q
+
+-- 02, P2: "A run adds the number of rounds it closed": the moves that carry 1
+unfoldable pub roundsIn : List Row → ℕ
+roundsIn [] = 0
+roundsIn (r ∷ rs) = pick (eqb (closedNumber (r .how)) 1) 1 0 + roundsIn rs
 
 -- "each turn's two bytes .. : the line before the turn, then 1 moved or 0 waited"
 unfoldable pub logOf : List Row → List ℕ
@@ -80,6 +85,7 @@ ranOf t end =
       state = t .state;
       ending = endingOf (t .stop) end;
       turns = length (t .made);
+      rounds = roundsIn (t .made);
       moves = table 64 (movesIn (t .made));
       waits = table 64 (waitsIn (t .made));
     }
@@ -91,6 +97,7 @@ refusedRun s reason place =
       state = s;
       ending = Refused reason place;
       turns = 0;
+      rounds = 0;
       moves = replicate 64 0;
       waits = replicate 64 0;
     }

@@ -4,6 +4,7 @@ use mathlib.Core.Bool.{Bool, true, false}
 use mathlib.Core.List.{List, [], _∷_, _++_}
 use mathlib.Core.Logic.{_≢_, _⊎_, inl, inr}
 use Prim.Native.Nat.{ℕ, suc, _+_, _*_, _≤_, _<_, min}
+use native.Mathlib.Decide.{ℕ-discrete}
 use native.Mathlib.Omega.{arith}
 use lib.Dec.{eqb, leb, ltb}
 use lib.ListN.{length, take, getD, length-take}
@@ -16,17 +17,20 @@ use Rattle.schedule.specs.PassesLaws.{all-known}
 use Rattle.machine.specs.declared.State.{State}
 use Rattle.machine.specs.declared.Move.{Move}
 use Rattle.machine.specs.declared.Move.the-variants.{Moved, Waited}
+use Rattle.machine.specs.declared.Outcome.{Outcome}
 use Rattle.machine.specs.declared.Outcome.the-variants as outcome
 use Rattle.machine.specs.Range.{checkState, Valid}
-use Rattle.machine.specs.Turn.{turnOf, moveNumber}
+use Rattle.machine.specs.Least.{least}
+use Rattle.machine.specs.Turn.{turnOf, moveNumber, closedNumber}
 use Rattle.machine.specs.TurnLaws.{turn-constants}
 use Rattle.machine.specs.KeepLaws.{turn-valid}
 use Rattle.machine.specs.CountLaws.{turn-refusals}
+use Rattle.machine.specs.RoundLaws.{turn-closed, turn-round}
 use Rattle.runner.specs.declared.Ending.the-variants.{Stopped}
 use Rattle.runner.specs.declared.Ran.{Ran}
-use Rattle.runner.specs.Trace.{Row, Stop, nothing, refusal, Trace, traceOf}
-use Rattle.runner.specs.TraceLaws.{made-few, turns-made, trace-keeps, StoppedAt, stopped-at}
-use Rattle.runner.specs.Run.{waitNumber, tallyIn, movesIn, waitsIn, logOf, unstopped, endingReason, runReason, runPlace, runTrace, ranOf, refusedRun, runOf}
+use Rattle.runner.specs.Trace.{Row, Stop, nothing, refusal, Trace, turned, traceOf}
+use Rattle.runner.specs.TraceLaws.{trace-none, trace-turn, made-few, turns-made, trace-keeps, StoppedAt, stopped-at}
+use Rattle.runner.specs.Run.{waitNumber, tallyIn, movesIn, waitsIn, roundsIn, logOf, unstopped, endingReason, runReason, runPlace, runTrace, ranOf, refusedRun, runOf}
 
 -- ---- tallies
 
@@ -68,14 +72,14 @@ pub moves-few : (s : State) (ts : List ℕ) (q : ℕ) → movesIn (traceOf s ts 
 moves-few = tally-turns moveNumber light
   where
     light : (how : Move) → moveNumber how ≤ 1
-    light Moved = omega arith
+    light (Moved c) = omega arith
     light Waited = omega arith
 
 pub waits-few : (s : State) (ts : List ℕ) (q : ℕ) → waitsIn (traceOf s ts .made) q ≤ length ts
 waits-few = tally-turns waitNumber light
   where
     light : (how : Move) → waitNumber how ≤ 1
-    light Moved = omega arith
+    light (Moved c) = omega arith
     light Waited = omega arith
 
 -- ---- the turns made
@@ -160,3 +164,35 @@ run-numbers s schedule allowance log e = go (runOf s schedule allowance log) (ru
         ⊎ (((endingReason (r .ending) ≡ 7) ⊎ (endingReason (r .ending) ≡ 11)) × (r .turns < min allowance (length schedule)))
     go r (all t q) = inl (rw q (by-test (λ x. endingReason x ≡ 0) (ltb allowance (length schedule)) (λ _. refl) (λ _. refl)), t)
     go r (stopped k w q f o) = inr (rw q w, f)
+
+-- ---- the rounds closed
+
+-- 02, P2: the rounds closed are "equal to the least count after minus the least count before"; a turn raises it by one at most
+pub trace-rounds : (s : State) (ts : List ℕ) → least (traceOf s ts .state) ≡ least s + roundsIn (traceOf s ts .made)
+unfolding roundsIn
+trace-rounds s [] = rw (trace-none s) (omega arith)
+trace-rounds s (p ∷ ts) = rw (trace-turn s p ts) (go (turnOf s p .outcome) refl (trace-rounds (turnOf s p .state) ts))
+  where
+    rest : Trace
+    rest = traceOf (turnOf s p .state) ts
+
+    -- a turn that is made carries 1 or 0
+    carries : (how : Move) → turnOf s p .outcome ≡ outcome.Made how → closedNumber how ≡ pick (eqb (closedNumber how) 1) 1 0
+    carries (Moved c) e =
+        rw (turn-closed s p c e)
+        (by-test (λ (x : ℕ). x ≡ pick (eqb x 1) 1 0) (ltb (least s) (least (turnOf s p .state))) {x = 1} {y = 0} (λ _. refl) (λ _. refl))
+    carries Waited e = refl
+
+    go : (o : Outcome) → turnOf s p .outcome ≡ o → least (rest .state) ≡ least (turnOf s p .state) + roundsIn (rest .made)
+        → least (turned s p o rest .state) ≡ least s + roundsIn (turned s p o rest .made)
+    go (outcome.Made how) e ih = omega (arith, ih, turn-round s p how e, carries how e)
+    go (outcome.Refused k) e ih = omega arith
+
+-- so for every run, refused or not: of one that is refused as a whole there are none
+pub run-rounds : (s : State) (schedule : List ℕ) (allowance : ℕ) (log : List ℕ)
+    → least (runOf s schedule allowance log .state) ≡ least s + runOf s schedule allowance log .rounds
+run-rounds s schedule allowance log = go (ℕ-discrete (runReason s schedule allowance (length log)) 0)
+  where
+    go : Dec (runReason s schedule allowance (length log) ≡ 0) → least (runOf s schedule allowance log .state) ≡ least s + runOf s schedule allowance log .rounds
+    go (yes e) = rw (run-accepts s schedule allowance log e) (trace-rounds s (take allowance schedule))
+    go (no ne) = rw (run-refuses s schedule allowance log ne) (omega arith)

@@ -1,6 +1,7 @@
 // The run of a schedule: the only loop over turns. What it answers, and what it writes to the log, is defined in specs/Run.antt.
 mod dispatch;
 
+use counts::Least;
 use lines::Shared;
 use machine::Move;
 use machine::Outcome;
@@ -9,7 +10,10 @@ ghost use mathlib.Core.Path.{_≡_};
 ghost use mathlib.Core.Bool.{true};
 ghost use Prim.Native.Nat.{_+_, _*_, _^_, _≤_, _<_, min};
 ghost use lib.ListN.{length, getD, take, set};
+ghost use Rattle.counts.specs.Counts.{leastOf};
+ghost use Rattle.counts.specs.CountsLaws.{KeptOrRaised};
 ghost use Rattle.machine.specs.Range.{Valid, tableOf};
+ghost use Rattle.machine.specs.Least.{countsOf};
 ghost use Rattle.machine.specs.Turn.{moveNumber, reasonNumber};
 ghost use Rattle.schedule.specs.Passes.{maxTurns, unknownAt, allTasks};
 ghost use Rattle.runner.specs.Trace.{traceOf};
@@ -24,11 +28,12 @@ pub enum Ending {
     Refused(u8, usize),
 }
 
-// A run's answer: the state, the ending, the turns made, and each task's moves and waits.
+// A run's answer: the state, the ending, the turns made, the rounds that they closed, and each task's moves and waits.
 pub struct Ran {
     pub state: State,
     pub ending: Ending,
     pub turns: usize,
+    pub rounds: u32,
     pub moves: [u32; 64],
     pub waits: [u32; 64],
 }
@@ -38,7 +43,7 @@ fn move_byte(how: Move) -> u8
     ensures { λ r. ⌜ r ≡ moveNumber how ⌝ }
 {
     match how {
-        Move::Moved => 1,
+        Move::Moved(_) => 1,
         Move::Waited => 0,
     }
 }
@@ -103,16 +108,41 @@ fn ended(allowance: usize, turns: usize) -> Ending
 }
 
 // The answer of a run that is not refused as a whole.
-fn report(state: State, ending: Ending, turns: usize, moves: [u32; 64], waits: [u32; 64]) -> Ran
-    ensures { λ r. ⌜ r ≡ record { state = state; ending = ending; turns = turns; moves = moves; waits = waits } ⌝ }
+fn report(
+    state: State,
+    ending: Ending,
+    turns: usize,
+    rounds: u32,
+    moves: [u32; 64],
+    waits: [u32; 64],
+) -> Ran
+    ensures { λ r. ⌜ r ≡ record { state = state; ending = ending; turns = turns; rounds = rounds; moves = moves; waits = waits } ⌝ }
 {
     Ran {
         state,
         ending,
         turns,
+        rounds,
         moves,
         waits,
     }
+}
+
+// Keeps the counts, and the least of them, as a task's count goes to `next`. The counts are gone over only where the last task that stood at
+// the least has risen.
+fn counted(counts: &mut [u32], least: Least, task: usize, next: u32) -> Least
+    requires { ⌜ task < length (now counts) ⌝ }
+    requires { ⌜ least ≡ leastOf (λ q. getD (now counts) q 0) (length (now counts)) ⌝ }
+    requires { ⌜ KeptOrRaised (getD (now counts) task 0) next ⌝ }
+    ensures { λ _. ⌜ now (counts .exit) ≡ set (now (counts .entry)) task next ⌝ }
+    ensures { λ r. ⌜ r ≡ leastOf (λ q. getD (now (counts .exit)) q 0) (length (now (counts .entry))) ⌝ }
+{
+    let count = counts[task];
+    counts[task] = next;
+    if (next != count) & (count == least.count) {
+        return counts::risen(least, counts);
+    }
+    least
 }
 
 // Makes the first `turns` turns of the schedule, from a state in range, whose parents are lent as `table`: each turn's answer is taken apart,
@@ -124,18 +154,22 @@ fn turns(
     schedule: &[u8],
     turns: usize,
     end: Ending,
+    counts: &mut [u32],
     log: &mut [u8],
 ) -> Ran
     requires { ⌜ Valid state ⌝ }
     requires { ⌜ now table ≡ tableOf state ⌝ }
     requires { ⌜ allTasks (state .n) (now schedule) ≡ true ⌝ }
     requires { ⌜ (turns ≤ length (now schedule)) × (turns ≤ maxTurns) ⌝ }
+    requires { ⌜ now counts ≡ take (state .n) (countsOf state) ⌝ }
     requires { ⌜ 2 * turns ≤ length (now log) ⌝ }
     ensures { λ r. ⌜ r ≡ defs.ranOf (traceOf state (take turns (now (schedule .entry)))) end ⌝ }
     ensures { λ _. ⌜ now (log .exit) ≡ defs.loggedOf (traceOf state (take turns (now (schedule .entry)))) (now (log .entry)) ⌝ }
 {
     let mut moves = [0u32; 64];
     let mut waits = [0u32; 64];
+    let mut least = counts::least_of(counts);
+    let before = least.count;
     let mut i = 0;
     while i < turns {
         let task = schedule[i] as usize;
@@ -151,16 +185,18 @@ fn turns(
         };
         let effect = dispatch::effect_of(shared, table, task, own, seen);
         let act = effect.act;
-        let outcome = Outcome::of(act);
+        let next = effect.task;
+        let closed = least.closes(own.count, next.count);
+        let outcome = Outcome::of(act, closed);
         let Outcome::Made(how) = outcome else {
             let ending = Ending::Stopped(reason_of(outcome));
-            return report(state, ending, i, moves, waits);
+            return report(state, ending, i, least.count - before, moves, waits);
         };
         let moved = move_byte(how);
         write_row(&mut log[2 * i..], own.line, moved);
         tally(&mut moves, task, moved);
         tally(&mut waits, task, 1 - moved);
-        let next = effect.task;
+        least = counted(counts, least, task, next.count);
         let write = effect.write;
         state.tasks[task] = next;
         if write.writes() {
@@ -172,7 +208,7 @@ fn turns(
         }
         i += 1;
     }
-    report(state, end, turns, moves, waits)
+    report(state, end, turns, least.count - before, moves, waits)
 }
 
 // The answer of a run that is refused as a whole.
@@ -183,6 +219,7 @@ fn refused(state: State, reason: u8, place: usize) -> Ran
         state,
         ending: Ending::Refused(reason, place),
         turns: 0,
+        rounds: 0,
         moves: [0u32; 64],
         waits: [0u32; 64],
     }
@@ -212,5 +249,14 @@ pub fn run(state: State, schedule: &[u8], allowance: usize, log: &mut [u8]) -> R
     let parents = state.parents;
     let n = state.n as usize;
     let end = ended(allowance, schedule.len());
-    turns(state, &parents[..n], schedule, count, end, log)
+    let mut counts = state.counts();
+    turns(
+        state,
+        &parents[..n],
+        schedule,
+        count,
+        end,
+        &mut counts[..n],
+        log,
+    )
 }

@@ -99,24 +99,17 @@ fn rows(page: &mut [u8; 2048], at: usize, ran: Ran, n: usize) -> usize
 
 // The least count of the tasks below n.
 fn least(state: State, n: usize) -> u32
-    requires { ⌜ n ≤ 64 ⌝ }
+    requires { ⌜ (1 ≤ n) × (n ≤ 64) ⌝ }
     ensures { λ r. ⌜ r ≡ leastUpTo state (n - 1) ⌝ }
 {
-    let mut least = state.tasks[0].count;
-    let mut q = 1;
-    while q < n {
-        let count = state.tasks[q].count;
-        if count < least {
-            least = count;
-        }
-        q += 1;
-    }
-    least
+    let all = state.counts();
+    let least = counts::least_of(&all[..n]);
+    least.count
 }
 
 // The whole table: the lines of the tasks below n, the passes and the least count.
 pub(crate) fn table(page: &mut [u8; 2048], ran: Ran, n: usize, passes: usize) -> usize
-    requires { ⌜ n ≤ 64 ⌝ }
+    requires { ⌜ (1 ≤ n) × (n ≤ 64) ⌝ }
     requires { ⌜ length (tableWith (rowsBy (ranRow ran) n) passes (leastUpTo (ran .state) (n - 1))) ≤ 2048 ⌝ }
     ensures { λ r. ⌜ Prints 0 (tableWith (rowsBy (ranRow ran) n) passes (leastUpTo (ran .state) (n - 1))) (now (page .entry)) r (now (page .exit)) ⌝ }
 {

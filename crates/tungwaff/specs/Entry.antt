@@ -11,7 +11,7 @@ use Rattle.machine.specs.declared.State.{State}
 use Rattle.machine.specs.declared.Outcome.{Outcome}
 use Rattle.machine.specs.declared.Outcome.the-variants as outcome
 use Rattle.machine.specs.Fresh.{Inputs, inputsOf, freshOf}
-use Rattle.machine.specs.Turn.{turnOf, moveNumber, reasonNumber}
+use Rattle.machine.specs.Turn.{turnOf, moveNumber, closedNumber, reasonNumber}
 use Rattle.machine.specs.Ready.{readyOf, readyReason, readyNumber}
 use Rattle.runner.specs.declared.Ending.{Ending}
 use Rattle.runner.specs.declared.Ending.the-variants.{Done, Spent, Stopped, Refused}
@@ -37,10 +37,11 @@ leftBy ran =
       state = ran .state;
       reason = endingReason (ran .ending);
       number = endingNumber (ran .ending) (ran .turns);
+      rounds = ran .rounds;
     }
 
 abbrev pub leftUnrun : State → ℕ → WholeRun
-leftUnrun s reason = record { state = s; reason = reason; number = 0 }
+leftUnrun s reason = record { state = s; reason = reason; number = 0; rounds = 0 }
 
 -- the whole schedule is run from the fresh state
 unfoldable pub wholeRunOf : Inputs → List ℕ → List ℕ → WholeRun
@@ -57,12 +58,20 @@ abbrev pub turnNumber : Outcome → ℕ
 turnNumber (outcome.Made how) = moveNumber how
 turnNumber (outcome.Refused k) = 0
 
+-- 1 if a turn closed a round, 0 if it did not or was refused
+abbrev pub turnClosed : Outcome → ℕ
+turnClosed (outcome.Made how) = closedNumber how
+turnClosed (outcome.Refused k) = 0
+
 -- a turn of the task p from the state that the run has left; none is made where the run was refused or stopped
 unfoldable pub thenTurnReason : WholeRun → ℕ → ℕ
 thenTurnReason run p = pick (eqb (run .reason) 0) (reasonNumber (turnOf (run .state) p .outcome)) (run .reason)
 
 unfoldable pub thenTurnNumber : WholeRun → ℕ → ℕ
 thenTurnNumber run p = pick (eqb (run .reason) 0) (turnNumber (turnOf (run .state) p .outcome)) (run .number)
+
+unfoldable pub thenTurnClosed : WholeRun → ℕ → ℕ
+thenTurnClosed run p = pick (eqb (run .reason) 0) (turnClosed (turnOf (run .state) p .outcome)) 0
 
 -- who can move in the state that the run has left; not asked where the run was refused or stopped
 unfoldable pub thenReadyReason : WholeRun → ℕ

@@ -9,14 +9,15 @@ ghost use lib.ListN.{length};
 ghost use Rattle.schedule.specs.Passes.{passesAnswer, passesReason, pairsAfter};
 ghost use Rattle.machine.specs.Fresh.{inputsOf};
 ghost use Rattle.sheet_text.specs.Print.{sheetOf, pageOf};
-ghost use Rattle.tungwaff.specs.Entry.{inputsFrom, wholeRunOf, wholeRunLog, thenTurnReason, thenTurnNumber, thenReadyReason, thenReadyNumber, passesNumber};
+ghost use Rattle.tungwaff.specs.Entry.{inputsFrom, wholeRunOf, wholeRunLog, thenTurnReason, thenTurnNumber, thenTurnClosed, thenReadyReason, thenReadyNumber, passesNumber};
 
 // What the run of a whole schedule from a fresh state leaves: the state; the reason that refused the fresh state, the run or a turn, 0 if
-// nothing was refused; and the turns made, for reason 9 the place of the first turn that is no task.
+// nothing was refused; the turns made, for reason 9 the place of the first turn that is no task; and the rounds closed.
 struct WholeRun {
     state: State,
     reason: u8,
     number: usize,
+    rounds: u32,
 }
 
 // Runs the whole schedule from a fresh state; one that is refused runs nothing.
@@ -38,6 +39,7 @@ fn whole_run(
             state: first,
             reason,
             number: 0,
+            rounds: 0,
         };
     }
     let ran = runner::run(first, schedule, schedule.len(), log);
@@ -47,12 +49,13 @@ fn whole_run(
         state,
         reason: numbers::ending_reason(ending),
         number: numbers::ending_number(ending, ran.turns),
+        rounds: ran.rounds,
     }
 }
 
 // Runs the whole schedule from a fresh state with these tables of parents and starts, and writes two bytes a turn to the log. Answers the reason that refused the fresh
 // state, the run or a turn; 0 if nothing was refused. The number is that of the turns made, for reason 9 the place of the first turn
-// that is no task.
+// that is no task; the rounds are those that the turns made have closed.
 #[no_mangle]
 pub extern "C" fn tungwaff_run(
     kind: usize,
@@ -63,19 +66,22 @@ pub extern "C" fn tungwaff_run(
     schedule: &[u8],
     log: &mut [u8],
     number: &mut usize,
+    rounds: &mut u32,
 ) -> u8
     ensures { λ r. ⌜ r ≡ wholeRunOf (inputsFrom kind n modulus (now (parents .entry)) (now (starts .entry))) (now (schedule .entry)) (now (log .entry)) .reason ⌝ }
     ensures { λ _. ⌜ now (number .exit) ≡ wholeRunOf (inputsFrom kind n modulus (now (parents .entry)) (now (starts .entry))) (now (schedule .entry)) (now (log .entry)) .number ⌝ }
+    ensures { λ _. ⌜ now (rounds .exit) ≡ wholeRunOf (inputsFrom kind n modulus (now (parents .entry)) (now (starts .entry))) (now (schedule .entry)) (now (log .entry)) .rounds ⌝ }
     ensures { λ _. ⌜ now (log .exit) ≡ wholeRunLog (inputsFrom kind n modulus (now (parents .entry)) (now (starts .entry))) (now (schedule .entry)) (now (log .entry)) ⌝ }
 {
     let run = whole_run(Setup { kind, n, modulus }, parents, starts, schedule, log);
     *number = run.number;
+    *rounds = run.rounds;
     run.reason
 }
 
 // Runs the whole schedule as `tungwaff_run` does, and then makes a turn of the task. Answers the reason that refused the run, or else
 // the turn; 0 if nothing was refused. The number is that of the run where it was refused or stopped; else 1 if the turn moved, 0 if it
-// waited or was refused.
+// waited or was refused. `closed` is 1 if the turn closed a round, else 0, and 0 where it was not made.
 #[no_mangle]
 pub extern "C" fn tungwaff_turn(
     kind: usize,
@@ -87,21 +93,25 @@ pub extern "C" fn tungwaff_turn(
     log: &mut [u8],
     task: usize,
     number: &mut usize,
+    closed: &mut u8,
 ) -> u8
     ensures { λ r. ⌜ r ≡ thenTurnReason (wholeRunOf (inputsFrom kind n modulus (now (parents .entry)) (now (starts .entry))) (now (schedule .entry)) (now (log .entry))) task ⌝ }
     ensures { λ _. ⌜ now (number .exit) ≡ thenTurnNumber (wholeRunOf (inputsFrom kind n modulus (now (parents .entry)) (now (starts .entry))) (now (schedule .entry)) (now (log .entry))) task ⌝ }
+    ensures { λ _. ⌜ now (closed .exit) ≡ thenTurnClosed (wholeRunOf (inputsFrom kind n modulus (now (parents .entry)) (now (starts .entry))) (now (schedule .entry)) (now (log .entry))) task ⌝ }
     ensures { λ _. ⌜ now (log .exit) ≡ wholeRunLog (inputsFrom kind n modulus (now (parents .entry)) (now (starts .entry))) (now (schedule .entry)) (now (log .entry)) ⌝ }
 {
     let run = whole_run(Setup { kind, n, modulus }, parents, starts, schedule, log);
     let reason = run.reason;
     if reason != 0 {
         *number = run.number;
+        *closed = 0;
         return reason;
     }
     let state = run.state;
     let turned = state.turn(task);
     let outcome = turned.outcome;
     *number = numbers::turn_number(outcome);
+    *closed = numbers::turn_closed(outcome);
     numbers::turn_reason(outcome)
 }
 

@@ -5,7 +5,7 @@ use machine::Ready;
 use runner::Ending;
 use schedule::answer::Passes;
 ghost use mathlib.Core.Path.{_≡_};
-ghost use Rattle.machine.specs.Turn.{moveNumber, reasonNumber};
+ghost use Rattle.machine.specs.Turn.{moveNumber, closedNumber, reasonNumber};
 ghost use Rattle.machine.specs.Ready.{readyReason, readyNumber};
 ghost use Rattle.runner.specs.Run.{endingReason};
 ghost use Rattle.schedule.specs.Passes.{passesReason};
@@ -50,7 +50,7 @@ fn move_number(how: Move) -> usize
     ensures { λ r. ⌜ r ≡ moveNumber how ⌝ }
 {
     match how {
-        Move::Moved => 1,
+        Move::Moved(_) => 1,
         Move::Waited => 0,
     }
 }
@@ -63,6 +63,26 @@ pub(crate) fn turn_number(outcome: Outcome) -> usize
         Outcome::Made(how) => move_number(how),
         Outcome::Refused(_) => 0,
     }
+}
+
+// 1 for a move that closed a round, else 0.
+fn move_closed(how: Move) -> u8
+    ensures { λ r. ⌜ r ≡ closedNumber how ⌝ }
+{
+    match how {
+        Move::Moved(closed) => closed,
+        Move::Waited => 0,
+    }
+}
+
+// 1 if a turn closed a round, 0 if it did not or was refused.
+pub(crate) fn turn_closed(outcome: Outcome) -> u8
+    ensures { λ r. ⌜ r ≡ defs.turnClosed outcome ⌝ }
+{
+    let Outcome::Made(how) = outcome else {
+        return 0;
+    };
+    move_closed(how)
 }
 
 // The reason that refused to say who is ready.

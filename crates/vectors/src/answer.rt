@@ -61,7 +61,7 @@ fn fresh(setup: Setup, parents: &[u8], starts: &[u8]) -> Answered {
 fn outcome(made: Outcome) -> Said {
     match made {
         Outcome::Made(how) => match how {
-            Move::Moved => Said::Number(1),
+            Move::Moved(closed) => Said::Moved(closed),
             Move::Waited => Said::Number(0),
         },
         Outcome::Refused(reason) => Said::Refused(reason),
@@ -167,6 +167,7 @@ fn run_on(
     let waits = ran.waits;
     let mut k = print::say(ending(how), out, at);
     k = print::next(ran.turns as u64, out, k);
+    k = print::next(ran.rounds as u64, out, k);
     k = tally(moves, out, k);
     k = tally(waits, out, k);
     k = print::bytes(log, out, k);

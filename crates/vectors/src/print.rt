@@ -17,6 +17,8 @@ pub enum Word {
 pub enum Said {
     Plain(Word),
     Number(u64),
+    // Moved, which is 1, with whether a round was closed.
+    Moved(u8),
     Task(usize),
     Stopped(u8),
     Refused(u8),
@@ -71,6 +73,7 @@ pub(crate) fn say(answer: Said, out: &mut Output, at: usize) -> usize {
     match answer {
         Said::Plain(word) => plain(word, out, at),
         Said::Number(n) => number(n, out, at),
+        Said::Moved(closed) => counted(b"1 ", closed as u64, out, at),
         Said::Task(task) => counted(b"task ", task as u64, out, at),
         Said::Stopped(reason) => counted(b"stopped ", reason as u64, out, at),
         Said::Refused(reason) => counted(b"refused ", reason as u64, out, at),

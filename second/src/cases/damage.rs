@@ -1,10 +1,12 @@
 //! Random damage: fields changed to values in and near their ranges, whole random states in
-//! range, and counts near their limit.
+//! range, and counts that are spread or near their limit.
 
+use super::fields::{COUNT, LINE};
 use super::fresh::accepted_fresh;
 use super::steps::{any_run, turn_of_ready, turn_of_someone};
 use super::values::TASK_COUNTS;
-use crate::machine::{in_range, State, FETCH_AND_INCREMENT, MAX_COUNT, RING, SYMMETRIC, TREE};
+use crate::machine::{counting_line, in_range, State, MAX_COUNT};
+use crate::machine::{FETCH_AND_INCREMENT, RING, SYMMETRIC, TREE};
 use crate::random::Random;
 use crate::recorder::Recorder;
 use crate::requests::{field_value, TASK_FIELDS};
@@ -104,11 +106,17 @@ fn children(state: &State, task: usize) -> u64 {
 
 // ---- whole states ----
 
-/// A random state in range, then every task's turn and some runs.
-pub fn state_in_range(recorder: &mut Recorder, random: &mut Random) {
+/// A fresh state of any kind, most often of a few tasks. Gives their number.
+fn small_fresh(recorder: &mut Recorder, random: &mut Random) -> usize {
     let kind = random.below(4) as u8;
     let n = if random.once_in(10) { random.pick(&TASK_COUNTS) } else { random.length(1, 4) };
     accepted_fresh(recorder, random, kind, n);
+    n
+}
+
+/// A random state in range, then every task's turn and some runs.
+pub fn state_in_range(recorder: &mut Recorder, random: &mut Random) {
+    let n = small_fresh(recorder, random);
     let small = !random.once_in(4);
     for task in 0..n {
         for field in TASK_FIELDS {
@@ -135,6 +143,28 @@ fn any_value(recorder: &mut Recorder, random: &mut Random, field: u64, task: usi
     recorder.set(field, task, value);
 }
 
+/// Counts a few apart, some of which are about to rise, so that rounds close at other turns than in
+/// reached states.
+pub fn spread_counts(recorder: &mut Recorder, random: &mut Random) {
+    let n = small_fresh(recorder, random);
+    let line = counting_line(recorder.state().kind).into();
+    let lowest = random.below(u64::from(MAX_COUNT) - 5);
+    for task in 0..n {
+        recorder.set(COUNT, task, lowest + random.below(4));
+        if random.once_in(3) {
+            recorder.set(LINE, task, line);
+        }
+    }
+    for _ in 0..3 {
+        any_run(recorder, random, 60 + 4 * n);
+        for _ in 0..random.length(0, 4) {
+            turn_of_someone(recorder, random);
+        }
+        recorder.set(LINE, random.length(0, n - 1), line);
+    }
+    recorder.show();
+}
+
 /// Counts at and just below the limit.
 pub fn near_the_limit(recorder: &mut Recorder, random: &mut Random) {
     let kind = random.below(4) as u8;
@@ -142,7 +172,7 @@ pub fn near_the_limit(recorder: &mut Recorder, random: &mut Random) {
     accepted_fresh(recorder, random, kind, n);
     for task in 0..n {
         let count = random.pick(&[999_998, 999_999, 999_999, 1_000_000]);
-        recorder.set(1, task, count);
+        recorder.set(COUNT, task, count);
     }
     for _ in 0..3 {
         any_run(recorder, random, 60);

@@ -1,15 +1,9 @@
 //! The refusals that a turn meets within a run: arrivals already N at line 13, and the count's
 //! limit at the counting line of each kind.
 
+use super::fields::{ARRIVALS, COUNT, FLAG, LINE, TOGGLE};
 use crate::machine::{FETCH_AND_INCREMENT, RING, SYMMETRIC, TREE};
 use crate::recorder::Recorder;
-
-/// The fields of request 6 that are used here.
-const LINE: u64 = 0;
-const COUNT: u64 = 1;
-const TOGGLE: u64 = 7;
-const FLAG: u64 = 8;
-const ARRIVALS: u64 = 12;
 
 pub fn cases(recorder: &mut Recorder) {
     for arrivals in 0..=4 {
@@ -27,16 +21,9 @@ pub fn cases(recorder: &mut Recorder) {
     }
 }
 
-/// A fresh state of three tasks.
-fn three_tasks(recorder: &mut Recorder, kind: u8) {
-    let modulus = if kind == SYMMETRIC { 3 } else { 0 };
-    let parents: &[u8] = if kind == TREE { &[0, 0, 0] } else { &[] };
-    recorder.fresh(kind.into(), 3, modulus, parents);
-}
-
 /// A task at line 13 of kind 1 with each number of arrivals.
 fn full_arrivals(recorder: &mut Recorder, arrivals: u64) {
-    three_tasks(recorder, FETCH_AND_INCREMENT);
+    recorder.fresh_kind(FETCH_AND_INCREMENT, 3);
     recorder.run_all(&[1, 1, 2]);
     recorder.change(ARRIVALS, 0, arrivals);
     recorder.ready();
@@ -52,7 +39,7 @@ fn full_arrivals(recorder: &mut Recorder, arrivals: u64) {
 /// Arrivals N: only line 13 is refused.
 fn full_arrivals_at_each_line(recorder: &mut Recorder) {
     for line in 11..=16 {
-        three_tasks(recorder, FETCH_AND_INCREMENT);
+        recorder.fresh_kind(FETCH_AND_INCREMENT, 3);
         recorder.change(ARRIVALS, 0, 3);
         for task in 0..3 {
             recorder.change(LINE, task, line);
@@ -66,7 +53,7 @@ fn full_arrivals_at_each_line(recorder: &mut Recorder) {
 
 /// Both refusals apply at line 13: 7 is given.
 fn full_arrivals_and_full_count(recorder: &mut Recorder) {
-    three_tasks(recorder, FETCH_AND_INCREMENT);
+    recorder.fresh_kind(FETCH_AND_INCREMENT, 3);
     recorder.run_all(&[1, 1]);
     recorder.change(COUNT, 1, 1_000_000);
     for arrivals in [2, 3, 4] {
@@ -82,7 +69,7 @@ fn full_arrivals_and_full_count(recorder: &mut Recorder) {
 
 /// Task 1 stands at the counting line with a count at or near the limit.
 fn count_at_the_limit(recorder: &mut Recorder, kind: u8, line: u64, count: u64) {
-    three_tasks(recorder, kind);
+    recorder.fresh_kind(kind, 3);
     recorder.change(LINE, 1, line);
     recorder.change(COUNT, 1, count);
     recorder.ready();
@@ -111,7 +98,7 @@ fn other_lines_at_the_limit(recorder: &mut Recorder, count: u64) {
 fn stopped_by_the_limit(recorder: &mut Recorder, kind: u8) {
     let schedule = [2, 1, 0, 0, 0, 0, 0, 0, 1, 2];
     for allowance in 0..=10 {
-        three_tasks(recorder, kind);
+        recorder.fresh_kind(kind, 3);
         recorder.change(COUNT, 0, 1_000_000);
         if kind == TREE {
             recorder.change(FLAG, 1, 1);
@@ -126,7 +113,7 @@ fn stopped_by_the_limit(recorder: &mut Recorder, kind: u8) {
 
 /// Tasks at the limit aren't ready; with all there, nobody is.
 fn nobody_ready(recorder: &mut Recorder, kind: u8, line: u64) {
-    three_tasks(recorder, kind);
+    recorder.fresh_kind(kind, 3);
     for task in 0..3 {
         recorder.change(COUNT, task, 1_000_000);
         recorder.ready();

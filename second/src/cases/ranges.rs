@@ -1,14 +1,12 @@
 //! Every field at and beyond the ends of its range, in used and unused fields, in tasks below N
 //! and from N on.
 
+use super::fields::START;
 use crate::machine::{FETCH_AND_INCREMENT, RING, SYMMETRIC, TREE};
 use crate::parents;
 use crate::recorder::Recorder;
 use crate::requests::TASK_FIELDS;
 use crate::schedules::cycle;
-
-/// The field of request 6 that is a task's start.
-const START: u64 = 15;
 
 pub fn cases(recorder: &mut Recorder) {
     for kind in 0..=3 {

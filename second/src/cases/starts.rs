@@ -1,16 +1,11 @@
 //! Starts of the symmetric barrier: line 13 looks from the task's start on, each time anew, and goes
 //! round to 0 after the last. Their refusals and ranges stand with the others.
 
+use super::fields::{LINE, LIST, LOOKED, START};
 use crate::machine::SYMMETRIC;
 use crate::recorder::Recorder;
 use crate::schedules::cycle;
 use crate::starts::{equal, next};
-
-/// The fields of request 6 that are used here.
-const LINE: u64 = 0;
-const LIST: u64 = 4;
-const LOOKED: u64 = 5;
-const START: u64 = 15;
 
 pub fn cases(recorder: &mut Recorder) {
     round_robin(recorder);

@@ -4,7 +4,7 @@ use super::values::TASK_COUNTS;
 use crate::machine::TREE;
 use crate::parents;
 use crate::recorder::Recorder;
-use crate::schedules::cycle;
+use crate::schedules::{cycle, each};
 
 pub fn cases(recorder: &mut Recorder) {
     for number in 0..=3 {
@@ -20,15 +20,9 @@ fn table(recorder: &mut Recorder, number: u64, n: usize) {
     recorder.fresh(TREE.into(), n as u64, 0, &parents::of_shape(number, n));
     recorder.ready();
     if TASK_COUNTS.contains(&n) {
-        recorder.run_all(&from_the_leaves(n));
+        recorder.run_all(&each((0..n as u8).rev(), 6));
         recorder.show();
         recorder.run_all(&cycle(n, 2 * n));
         recorder.show();
     }
-}
-
-/// The tasks from the last to the first, several turns each.
-fn from_the_leaves(n: usize) -> Vec<u8> {
-    let tasks = (0..n as u8).rev();
-    tasks.flat_map(|task| [task; 6]).collect()
 }

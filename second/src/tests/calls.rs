@@ -1,7 +1,7 @@
 //! The calls held against plain definitions: runs against single turns, passes and first passes
 //! against every cutting, shapes against their children.
 
-use super::{all_rows, begin, begin_starts};
+use super::{all_rows, begin_any};
 use crate::machine::{run, turn, Outcome, Report, State};
 use crate::passes::{first_pass, passes};
 use crate::random::Random;
@@ -13,7 +13,7 @@ fn by_turns(state: &mut State, schedule: &[u8], log: &mut [u8]) -> ([u32; 64], [
     let (mut moves, mut waits) = ([0; 64], [0; 64]);
     for (place, &task) in schedule.iter().enumerate() {
         let line = state.tasks[usize::from(task)].line;
-        let moved = turn(state, task.into()) == Ok(Outcome::Moved);
+        let moved = matches!(turn(state, task.into()), Ok(Outcome::Moved { .. }));
         log[2 * place] = line;
         log[2 * place + 1] = u8::from(moved);
         let counts = if moved { &mut moves } else { &mut waits };
@@ -25,18 +25,10 @@ fn by_turns(state: &mut State, schedule: &[u8], log: &mut [u8]) -> ([u32; 64], [
 #[test]
 fn runs_are_turns() {
     let mut random = Random::new(1);
-    for round in 0..400 {
-        let kind = (round % 4) as u8;
-        let n = random.length(1, 9);
-        let modulus = if kind == 0 { 3 } else { 0 };
-        let mut parents = vec![0; if kind == 3 { n } else { 0 }];
-        let _ = shape(random.below(4), parents.len() as u64, &mut parents);
-        let mut state = begin(kind, n as u64, modulus, &parents);
-        if kind == 0 && round % 8 == 0 {
-            state = begin_starts(modulus, &schedules::uniform(&mut random, n, n));
-        }
+    for _ in 0..400 {
+        let mut state = begin_any(&mut random);
         let mut other = state;
-        let schedule = schedules::any(&mut random, n, 300);
+        let schedule = schedules::any(&mut random, state.n.into(), 300);
         let made = random.length(0, 300);
         let (mut log, mut expected) = ([255; 600], [255; 600]);
         let report: Report = run(&mut state, &schedule, made as u64, &mut log);

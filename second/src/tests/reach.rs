@@ -3,7 +3,7 @@
 //! passes raise the least count.
 
 use super::starts::nearest;
-use super::{all_rows, begin, begin_starts};
+use super::{all_rows, begin, begin_starts, least};
 use crate::machine::{in_range, ready, step, turn, Outcome, State};
 use crate::machine::{FETCH_AND_INCREMENT, RING, SYMMETRIC, TREE};
 use std::collections::HashSet;
@@ -19,14 +19,9 @@ fn key(state: &State) -> Vec<u8> {
     key
 }
 
-fn least_count(state: &State) -> u32 {
-    let counts = state.tasks[..usize::from(state.n)].iter().map(|task| task.count);
-    counts.min().unwrap_or(0)
-}
-
 /// Takes the least count off every count.
 fn lower(state: &mut State) {
-    let least = least_count(state);
+    let least = least(state);
     for task in &mut state.tasks[..usize::from(state.n)] {
         task.count -= least;
     }
@@ -62,7 +57,8 @@ fn check_barrier(state: &State) {
 
 /// Ready names the least task whose turn moves, and there is one.
 fn check_ready(state: &State) {
-    let moves = |&task: &usize| turn(&mut state.clone(), task as u64) == Ok(Outcome::Moved);
+    let moves =
+        |&task: &usize| matches!(turn(&mut state.clone(), task as u64), Ok(Outcome::Moved { .. }));
     let least = (0..usize::from(state.n)).find(moves);
     assert!(least.is_some(), "{state:?}");
     assert_eq!(ready(state), Ok(least), "{state:?}");
@@ -71,25 +67,25 @@ fn check_ready(state: &State) {
 /// In enough passes every task makes a whole round.
 fn check_progress(mut state: State) {
     let n = usize::from(state.n);
-    let before = least_count(&state);
+    let before = least(&state);
     for _ in 0..20 * n {
         for task in (0..n).rev() {
             let _ = step(&mut state, task);
         }
     }
-    assert!(least_count(&state) > before, "{state:?}");
+    assert!(least(&state) > before, "{state:?}");
 }
 
 /// The state after a turn. A wait changes nothing; a move leaves every start and the other tasks'
-/// lines, counts and lists alone.
+/// lines, counts and lists alone, and says by how much the least count rose.
 fn turned(state: State, task: usize) -> State {
     let mut next = state;
     let outcome = turn(&mut next, task as u64);
-    assert!(outcome.is_ok(), "{state:?}");
-    if outcome == Ok(Outcome::Waited) {
-        assert_eq!(next, state);
+    let Ok(Outcome::Moved { closed }) = outcome else {
+        assert_eq!((outcome, next), (Ok(Outcome::Waited), state));
         return next;
-    }
+    };
+    assert_eq!(u32::from(closed), least(&next) - least(&state), "{state:?}");
     assert!(next.tasks[task].line != state.tasks[task].line || next.tasks[task].line == 18);
     check_look(&state, &next, task);
     assert_eq!(next.tasks[task].start, state.tasks[task].start);

@@ -101,7 +101,7 @@ fn order_of_a_turn() {
     state.arrivals = 2;
     assert_eq!(turn(&mut state, 0), Err(Refusal::CountLimit));
     state.tasks[0].count -= 1;
-    assert_eq!(turn(&mut state, 0), Ok(Outcome::Moved));
+    assert_eq!(turn(&mut state, 0), Ok(Outcome::Moved { closed: false }));
     assert_eq!((state.arrivals, state.tasks[0].line), (3, 14));
 }
 
@@ -118,7 +118,7 @@ fn count_at_its_limit() {
         assert_eq!(state, before);
         state.tasks[1].count -= 1;
         assert_eq!(ready(&state), Ok(Some(1)));
-        assert_eq!(turn(&mut state, 1), Ok(Outcome::Moved));
+        assert_eq!(turn(&mut state, 1), Ok(Outcome::Moved { closed: true }));
         assert_eq!(state.tasks[1].count, MAX_COUNT);
     }
 }
@@ -307,7 +307,7 @@ fn root_may_have_a_flag() {
     let mut state = three(TREE);
     state.tasks[0].flag = 1;
     state.tasks[0].line = 16;
-    assert_eq!(turn(&mut state, 0), Ok(Outcome::Moved));
+    assert_eq!(turn(&mut state, 0), Ok(Outcome::Moved { closed: false }));
     assert_eq!(state.tasks[0].flag, 1);
 }
 
@@ -316,6 +316,6 @@ fn unlisted_task_changes_no_list() {
     let mut state = three(SYMMETRIC);
     let task = &mut state.tasks[0];
     (task.line, task.old, task.list, task.looked) = (14, 3, 0b100, 1);
-    assert_eq!(turn(&mut state, 0), Ok(Outcome::Moved));
+    assert_eq!(turn(&mut state, 0), Ok(Outcome::Moved { closed: false }));
     assert_eq!((state.tasks[0].line, state.tasks[0].list), (13, 0b100));
 }

@@ -71,7 +71,7 @@ fn looked_at(n: usize, start: u8, list: u64) -> Option<u8> {
     let mut state = begin_starts(3, &equal(start, n));
     let own = &mut state.tasks[0];
     (own.line, own.list) = (13, list);
-    assert_eq!(turn(&mut state, 0), Ok(Outcome::Moved));
+    assert_eq!(turn(&mut state, 0), Ok(Outcome::Moved { closed: false }));
     match state.tasks[0].line {
         14 => Some(state.tasks[0].looked),
         line => {
@@ -119,7 +119,7 @@ fn starts_above_every_task() {
             let mut state = begin(SYMMETRIC, 64, 3, &[]);
             let own = &mut state.tasks[0];
             (own.line, own.list, own.start) = (13, list, start);
-            assert_eq!(step(&mut state, 0), Ok(Outcome::Moved));
+            assert_eq!(step(&mut state, 0), Ok(Outcome::Moved { closed: false }));
             assert_eq!((state.tasks[0].line, state.tasks[0].looked), (line, looked));
         }
     }

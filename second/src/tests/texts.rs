@@ -71,8 +71,8 @@ fn requests_of_a_state() {
     for (place, value) in [(0, "1"), (1, "2"), (4, "1"), (69, "12"), (79, "11")] {
         fields[place] = value;
     }
-    let counts = format!("1 {}", vec!["0"; 127].join(" "));
-    let none = vec!["0"; 128].join(" ");
+    let counts = format!("0 1 {}", vec!["0"; 127].join(" "));
+    let none = vec!["0"; 129].join(" ");
     check_replay(&[
         ("5", &zeros),
         ("2 0", "refused 7"),
@@ -87,11 +87,30 @@ fn requests_of_a_state() {
         ("2 2", "refused 9"),
         ("3", "task 0"),
         ("6 12 0 2", "ok"),
-        ("2 0", "1"),
+        ("2 0", "1 0"),
         ("2 0", "refused 7"),
         ("3", "task 1"),
         ("4 9 2 0", &format!("stopped 7 0 {none} 255 255")),
         ("4 0 0", &format!("done 0 {none}")),
+    ]);
+}
+
+/// A ring of two: task 1's third turn closes a round, and edited counts move it to task 0's.
+#[test]
+fn requests_of_rounds() {
+    let zeros = |length: usize| vec!["0"; length].join(" ");
+    let log = "11 1 12 1 13 1 11 1 12 1 13 1 14 0";
+    let again = "14 1 15 1 14 1 15 1 11 1 12 1";
+    check_replay(&[
+        ("1 2 2 0", "0"),
+        ("4 7 14 0 0 0 1 1 1 1", &format!("done 7 1 3 3 {} 1 {} {log}", zeros(63), zeros(62))),
+        ("6 1 1 3", "ok"),
+        ("4 6 12 0 0 1 1 0 0", &format!("done 6 0 4 2 {} {again}", zeros(126))),
+        ("2 0", "1 1"),
+        ("2 0", "0"),
+        ("2 1", "1 0"),
+        ("2 2", "refused 9"),
+        ("4 1 1 0", &format!("refused 10 {} 255", zeros(130))),
     ]);
 }
 
@@ -212,7 +231,7 @@ fn bad_lines() {
 #[test]
 fn longest_requests() {
     let turns = |length: usize| vec!["0"; length].join(" ");
-    let none = vec!["0"; 129].join(" ");
+    let none = vec!["0"; 130].join(" ");
     check_replay(&[
         ("1 2 1 0", "0"),
         (&format!("4 0 0 {}", turns(70_000)), &format!("refused 8 {none}")),

@@ -33,7 +33,7 @@ fn one_round_ahead(modulus: u8) -> Outcome {
 
 #[test]
 fn modulus_of_two() {
-    assert_eq!(one_round_ahead(3), Outcome::Moved);
+    assert_eq!(one_round_ahead(3), Outcome::Moved { closed: false });
     assert_eq!(one_round_ahead(2), Outcome::Waited);
 }
 

@@ -1,14 +1,15 @@
 -- `runner::run` meets its contract, a return for each answer. Each place is reached from the next by a name, and each fact stands at the first
 -- place that has it.
 use borrow.Author.Needs.{needs}
-use mathlib.Core.Path.{_≡_, refl, sym, _∙_}
+use mathlib.Core.Path.{_≡_, refl, sym, ap, _∙_}
 use mathlib.Core.Bool.{true}
 use Prim.Native.Nat.{_≤_}
 use native.Mathlib.Omega.{arith}
-use lib.ListN.{length}
+use lib.ListN.{length, take}
 use lib.Seq.{length-take-le}
 use Rattle.machine.specs.Range.{Valid}
 use Rattle.machine.specs.RangeLaws.{range}
+use Rattle.machine.specs.RoundLaws.{lent-there}
 use Rattle.machine.proofs.Arrays.{parents-64}
 use Rattle.schedule.specs.Passes.{maxTurns, allTasks}
 use Rattle.runner.proofs.Answers.{refuses-7, refuses-8, refuses-9, refuses-10, accepts, all-tasks}
@@ -48,6 +49,13 @@ table-there c =
     let s = handed f .args .state in
     omega (arith, range s (ok (f .before)) .few, parents-64 s _ (handed f .good .0))
 
+-- and so are the counts
+counts-there : (c : tie.After-counts) → handed (counted (roomy (c .before) .before)) .args .state .n ≤ length (c .counts .result)
+counts-there c =
+    let f = counted (roomy (c .before) .before) in
+    let s = handed f .args .state in
+    lent-there s (s .n) (range s (ok (f .before)) .few) (c .counts .result) (c .counts .ensures)
+
 -- ---- the needs
 
 returns : tie.Need-returns
@@ -80,23 +88,34 @@ returns-4 c =
     (c .before .if4 .taken) _ (c .refused4 .ensures)
 
 array-share-prefix-parents : tie.Need-array-share-prefix-parents
-array-share-prefix-parents c = table-there c
+array-share-prefix-parents c = table-there (c .before)
 
 slice-aggregate-turns : tie.Need-slice-aggregate-turns
-slice-aggregate-turns c = sym (length-take-le _ _ (table-there (c .before)))
+slice-aggregate-turns c = sym (length-take-le _ _ (table-there (c .before .before)))
+
+array-borrow-prefix-counts : tie.Need-array-borrow-prefix-counts
+array-borrow-prefix-counts c = counts-there (c .before)
+
+slice-aggregate-turns-2 : tie.Need-slice-aggregate-turns-2
+slice-aggregate-turns-2 c = sym (length-take-le _ _ (counts-there (c .before .before)))
+
+-- the last place before the turns that has the counts
+abbrev lent : tie.After-turns-arg → tie.After-counts
+lent c = c .before .before .before
 
 turns-requires : tie.Need-turns-requires
 turns-requires c κs =
-    let r = roomy (c .before .before) in
+    let l = lent c in
+    let r = roomy (l .before) in
     let m = r .before in
     let f = counted m in
     let fewer = m .smaller .ensures in
-    (ok (f .before), (refl, (known (m .before), ((omega arith, omega (arith, few f)), r .if4 .left))))
+    (ok (f .before), (refl, (known (m .before), ((omega arith, omega (arith, few f)), (ap (take (handed f .args .state .n)) (l .counts .ensures), r .if4 .left)))))
 
 returns-5 : tie.Need-returns-5
 returns-5 c =
-    let t = c .before .before in
-    let d = t .before .before .before in
+    let t = c .before .before .before in
+    let d = lent (t .before) .before in
     let r = roomy d in
     let m = r .before in
     let f = counted m in
@@ -110,4 +129,5 @@ run-spec =
     (tie.spec (λ c κs. search needs) (λ c κs. search needs) returns (λ c κs. search needs) returns-2
     (λ c. search needs) (λ c κs. search needs) (λ c κs. search needs) returns-3 (λ c κs. search needs)
     (λ c. search needs) (λ c κs. search needs) returns-4 (λ c. search needs) (λ c κs. search needs)
-    array-share-prefix-parents slice-aggregate-turns turns-requires (λ c. search needs) returns-5)
+    (λ c κs. search needs) array-share-prefix-parents slice-aggregate-turns array-borrow-prefix-counts slice-aggregate-turns-2 turns-requires
+    (λ c. search needs) returns-5)

@@ -1,27 +1,30 @@
--- `runner::turns` meets its contract. The loop's invariant: state, tallies and log are those of the trace so far.
+-- `runner::turns` meets its contract. The loop's invariant: state, tallies and log are those of the trace so far, and the counts and the least
+-- of them those of the state.
 -- A place of the code is reached from a later one by a name, and a fact stands at the first place that has it: a new place changes one name.
 use borrow.Author.Needs.{needs}
 use mathlib.Core.Path.{_≡_, sym, ap, _∙_}
 use mathlib.Core.Logic.{⊎-elim}
 use Prim.Native.Nat.{ℕ, _+_, _*_, _-_, _≤_, _<_}
 use native.Mathlib.Omega.{arith}
-use lib.ListN.{length, getD, drop, length-take, length-drop}
+use lib.ListN.{length, getD, take, drop, length-take, length-drop}
 use Rattle.machine.specs.declared.Move.{Move}
 use Rattle.machine.specs.declared.Outcome.{Outcome}
 use Rattle.machine.specs.declared.State.{State}
 use Rattle.machine.specs.Setters.{taskAt}
-use Rattle.machine.specs.Turn.{effectOf, outcomeOf, reasonNumber}
-use Rattle.machine.specs.TurnLaws.{stored, stored-own}
+use Rattle.machine.specs.Least.{countsOf, least}
+use Rattle.machine.specs.Turn.{effectOf, answerOf, reasonNumber}
+use Rattle.machine.specs.TurnLaws.{stored, stored-is, stored-own}
 use Rattle.schedule.specs.Passes.{maxTurns}
 use Rattle.runner.proofs.Going as at
 use Rattle.runner.proofs.turns.Statement.{statement}
 use Rattle.runner.proofs.turns.Tie as tie
 
 abbrev Inv-loop : tie.InvT-loop
-Inv-loop table schedule turns end log₀ state₀ moves₀ waits₀ i₀ log state moves waits i = (i ≤ turns) × at.Going state₀ schedule log₀ i state moves waits log
+Inv-loop table schedule turns end counts₀ log₀ state₀ moves₀ waits₀ least₀ before i₀ counts log state moves waits least i =
+    (i ≤ turns) × at.Going state₀ schedule log₀ i state (record { moves = moves; waits = waits; counts = counts; least = least }) log
 
 abbrev μ-loop : tie.MeasureT-loop
-μ-loop table schedule turns end log₀ state₀ moves₀ waits₀ i₀ log state moves waits i = turns - i
+μ-loop table schedule turns end counts₀ log₀ state₀ moves₀ waits₀ least₀ before i₀ counts log state moves waits least i = turns - i
 
 -- ---- what is handed over, and what its callers show
 
@@ -32,10 +35,16 @@ few-turns : (c : Start) → (c .args .turns ≤ length (c .args .schedule .now))
 few-turns c = c .pre .1 .1 .1 .0
 
 log-room : (c : Start) → 2 * c .args .turns ≤ length (c .args .log .now)
-log-room c = c .pre .1 .1 .1 .1
+log-room c = c .pre .1 .1 .1 .1 .1
 
-abbrev entry : tie.After-slice-known Inv-loop μ-loop → Start
-entry c = c .before .before .before
+counts-lent : (c : Start) → c .args .counts .now ≡ take (c .args .t1 .n) (countsOf (c .args .t1))
+counts-lent c = c .pre .1 .1 .1 .1 .0
+
+abbrev known : tie.After-least-of Inv-loop μ-loop → tie.After-slice-known Inv-loop μ-loop
+known c = c .before .before .before
+
+abbrev entry : tie.After-least-of Inv-loop μ-loop → Start
+entry c = known c .before .before .before
 
 -- ---- the loop's test
 
@@ -45,9 +54,22 @@ Test = tie.At-loop Inv-loop μ-loop
 abbrev start : Test → Start
 start c = entry (c .before)
 
-going : (c : Test) → at.Going (start c .args .t1) (start c .args .schedule .now) (start c .args .log .now) (c .loop .i)
-    (c .loop .state) (c .loop .moves) (c .loop .waits) (c .loop .log)
+abbrev held : Test → at.Held
+held c = record { moves = c .loop .moves; waits = c .loop .waits; counts = c .loop .counts; least = c .loop .least }
+
+going : (c : Test) → at.Going (start c .args .t1) (start c .args .schedule .now) (start c .args .log .now) (c .loop .i) (c .loop .state) (held c) (c .loop .log)
 going c = c .loop .inv .1
+
+-- what the least count was, and that it has not fallen
+first : (c : Test) → c .before .least-of .result .count ≡ least (start c .args .t1)
+first c =
+    at.first-least (start c .args .t1) (start c .args .counts .now) (c .before .least-of .result) (start c .pre .0) (counts-lent (start c)) (c .before .least-of .ensures)
+
+no-less : (c : Test) → c .before .least-of .result .count ≤ c .loop .least .count
+no-less c = at.least-up (going c) (c .before .least-of .result .count) (first c)
+
+counts-long : (c : Test) → length (c .loop .counts) ≡ length (start c .args .counts .now)
+counts-long c = at.counts-long (going c) (start c .args .counts .now) (start c .pre .0) (counts-lent (start c))
 
 log-long : (c : Test) → length (c .loop .log) ≡ length (start c .args .log .now)
 log-long c = at.going-long (going c) (omega (arith, c .loop .inv .0, log-room (start c)))
@@ -70,7 +92,7 @@ abbrev task : Turn → ℕ
 task c = getD (begun c .args .schedule .now) (i c) 0
 
 next : (c : Turn) → at.Next (begun c .args .t1) (begun c .args .schedule .now) (begun c .args .log .now) (i c)
-    (state c) (c .before .loop .moves) (c .before .loop .waits) (c .before .loop .log)
+    (state c) (held (c .before)) (c .before .loop .log)
 next c = record { going = going (c .before); all = begun c .pre .1 .1 .0; less = omega (arith, c .loop-test .taken, few-turns (begun c)) }
 
 -- the turn has room in the log, and the tallies have room for it
@@ -106,8 +128,13 @@ effect-is c =
 abbrev Answered : Type 0
 Answered = tie.After-of Inv-loop μ-loop
 
-outcome-is : (c : Answered) (o : Outcome) → c .of .result ≡ o → outcomeOf (c .before .effect-of .result .act) ≡ o
-outcome-is c o e = sym (c .of .ensures) ∙ e
+abbrev acted : Answered → Acted
+acted c = c .before .before .before
+
+outcome-is : (c : Answered) (o : Outcome) → c .of .result ≡ o → answerOf (state (turn (acted c))) (task (turn (acted c))) (acted c .effect-of .result) ≡ o
+outcome-is c o e =
+    let a = acted c in
+    sym (c .of .ensures ∙ at.answer-is (next (turn a)) (a .effect-of .result) (effect-is a) (c .before .closes .result) (c .before .closes .ensures)) ∙ e
 
 -- ---- a turn that is refused
 
@@ -126,7 +153,7 @@ abbrev answered : Made → Answered
 answered c = told c .before .before
 
 abbrev made : Made → Turn
-made c = turn (answered c .before)
+made c = turn (acted (answered c))
 
 abbrev how : Made → Move
 how c = told c .outcome .given .0 .0
@@ -146,21 +173,21 @@ moves c = c .before
 abbrev waited : tie.After-waits Inv-loop μ-loop → Made
 waited c = moved (moves c .before)
 
-abbrev waits : tie.After-next Inv-loop μ-loop → tie.After-tally2 Inv-loop μ-loop
-waits c = c .before
+abbrev waits : tie.After-slice-known4 Inv-loop μ-loop → tie.After-tally2 Inv-loop μ-loop
+waits c = c .before .before .before .before
 
-abbrev tallied : tie.After-next Inv-loop μ-loop → Made
+abbrev tallied : tie.After-slice-known4 Inv-loop μ-loop → Made
 tallied c = waited (waits c .before)
 
 abbrev words : tie.After-place Inv-loop μ-loop → tie.After-arrivals Inv-loop μ-loop
 words c = c .before .before
 
-abbrev own : tie.After-place Inv-loop μ-loop → tie.After-next Inv-loop μ-loop
+abbrev own : tie.After-place Inv-loop μ-loop → tie.After-slice-known4 Inv-loop μ-loop
 own c = words c .before .before .before
 
 place-there : (c : tie.After-place Inv-loop μ-loop) → c .place .result < 64
 place-there c =
-    let a = answered (tallied (own c)) .before in
+    let a = acted (answered (tallied (own c))) in
     rw (c .place .ensures) (at.place-there (next (turn a)) (a .effect-of .result) (effect-is a))
 
 abbrev place : tie.After-task Inv-loop μ-loop → tie.After-place Inv-loop μ-loop
@@ -176,19 +203,19 @@ kept c = tallied (c .before .before)
 abbrev done : Stored → Turn
 done c = made (kept c)
 
-stores : (c : Stored) → c .if1 .state ≡ stored (state (done c)) (task (done c)) (answered (kept c) .before .effect-of .result)
+stores : (c : Stored) → c .if1 .state ≡ stored (state (done c)) (task (done c)) (acted (answered (kept c)) .effect-of .result)
 stores c =
     let t = done c in
-    let e = answered (kept c) .before .effect-of .result in
+    let e = acted (answered (kept c)) .effect-of .result in
     ⊎-elim
-    (λ w. w .6 ∙ at.stored-is (state t) (task t) e _ _ _ _ (w .1 .ensures) (w .2 .ensures) (w .3 .ensures) (w .5 .ensures))
+    (λ w. w .6 ∙ stored-is (state t) (task t) e _ _ _ _ (w .1 .ensures) (w .2 .ensures) (w .3 .ensures) (w .5 .ensures))
     (λ w. w .1 ∙ stored-own (state t) (task t) e (sym (c .before .writes .ensures) ∙ w .0 .left))
     (c .if1 .came)
 
 -- ---- the needs
 
 loop-holds : tie.Need-loop-holds Inv-loop μ-loop
-loop-holds c = (search needs, at.going-none _ _ _ (entry c .pre .0))
+loop-holds c = (search needs, at.going-none _ _ _ _ _ (entry c .pre .0) (counts-lent (entry c)) (c .least-of .ensures))
 
 cast-task : tie.Need-cast-task Inv-loop μ-loop
 cast-task c = omega (arith, own-there (c .before))
@@ -202,18 +229,24 @@ element-copy-out-own c = own-there (c .before)
 element-copy-out-seen : tie.Need-element-copy-out-seen Inv-loop μ-loop
 element-copy-out-seen c = seen-there (looking c)
 
+sub-report : tie.Need-sub-report Inv-loop μ-loop
+sub-report c = no-less (turn (acted (refused (c .before))) .before)
+
 same-length : tie.Need-same-length Inv-loop μ-loop
-same-length c = log-long (turn (refused (c .before) .before) .before)
+same-length c = counts-long (turn (acted (refused (c .before .before))) .before)
+
+same-length-2 : tie.Need-same-length-2 Inv-loop μ-loop
+same-length-2 c = log-long (turn (acted (refused (c .before .before))) .before)
 
 returns : tie.Need-returns Inv-loop μ-loop
 returns c =
-    let r = c .before in
+    let r = c .before .before in
     let o = refused r in
-    let a = o .before in
+    let a = acted o in
     let t = turn a in
     let why = r .before .enum-told .given in
     let stop = at.stopped (next t) (a .effect-of .result) (effect-is a) (begun t .args .end) (why .0 .0) (r .reason-of .result) (begun t .args .turns)
-    (outcome-is o _ (why .1)) (r .reason-of .ensures ∙ ap reasonNumber (why .1)) (t .loop-test .taken) in
+    (t .before .before .least-of .result .count) (outcome-is o _ (why .1)) (r .reason-of .ensures ∙ ap reasonNumber (why .1)) (t .loop-test .taken) (first (t .before)) in
     (c .report .ensures ∙ stop .0, stop .1)
 
 mul-write-row : tie.Need-mul-write-row Inv-loop μ-loop
@@ -244,6 +277,12 @@ tally-requires-2 c κs =
     let t = made (waited c) in
     (own-there t, omega (arith, at.waits-room (going (t .before)) (task t) (own-there t), soon t))
 
+counted-requires : tie.Need-counted-requires Inv-loop μ-loop
+counted-requires c κs =
+    let a = acted (answered (waited (c .before .before))) in
+    let n = next (turn a) in
+    (at.count-there n, (at.least-there n, at.count-rises n (a .effect-of .result) (effect-is a)))
+
 mul-next : tie.Need-mul-next Inv-loop μ-loop
 mul-next c = omega (arith, own-there (made (tallied c)))
 
@@ -268,35 +307,42 @@ loop-less c = omega (arith, done c .loop-test .taken)
 loop-again : tie.Need-loop-again Inv-loop μ-loop
 loop-again c =
     let n = c .before .before in
+    let k = n .before .before in
     let w = waits n in
     let v = moves (w .before) in
     let m = kept c in
     let o = answered m in
-    let a = o .before in
+    let a = acted o in
     let t = turn a in
     let answer = outcome-is o _ (told m .outcome .given .1) in
-    let on = at.goes-on (next t) (a .effect-of .result) (effect-is a) (how m) answer (m .move-byte .result) _ _ _ _ (m .move-byte .ensures) (row-there t)
-    (stores c) (v .tally .ensures) (w .tally2 .ensures) (row (v .before) .write-row .ensures) in
+    let on = at.goes-on (next t) (a .effect-of .result) (effect-is a) (how m) answer (m .move-byte .result) _ _ _ _ _ _ (m .move-byte .ensures) (row-there t)
+    (stores c) (v .tally .ensures) (w .tally2 .ensures) (k .counted .ensures .0) (k .counted .ensures .1) (row (v .before) .write-row .ensures) in
     (omega (arith, t .loop-test .taken), on)
 
-same-length-2 : tie.Need-same-length-2 Inv-loop μ-loop
-same-length-2 c = log-long (c .before .before)
+sub-report-2 : tie.Need-sub-report-2 Inv-loop μ-loop
+sub-report-2 c = no-less (c .before .before)
+
+same-length-3 : tie.Need-same-length-3 Inv-loop μ-loop
+same-length-3 c = counts-long (c .before .before .before)
+
+same-length-4 : tie.Need-same-length-4 Inv-loop μ-loop
+same-length-4 c = log-long (c .before .before .before)
 
 returns-2 : tie.Need-returns-2 Inv-loop μ-loop
 returns-2 c =
-    let l = c .before in
+    let l = c .before .before in
     let s = start (l .before) in
     let all : l .before .loop .i ≡ s .args .turns = omega (arith, l .before .loop .inv .0, l .loop-test .left) in
-    let end = at.finished (going (l .before)) (s .args .end) in
-    (c .report2 .ensures ∙ rw all at (end .0), rw all at (end .1))
+    let end = at.finished (going (l .before)) (s .args .end) (l .before .before .least-of .result .count) (s .args .turns) (first (l .before)) all in
+    (c .report2 .ensures ∙ end .0, end .1)
 
 pub turns-spec : {M : Type 1} → statement M
 turns-spec =
     tie.close
-    (tie.spec Inv-loop μ-loop loop-holds (λ c. search needs) cast-task mul-own element-copy-out-own (λ c. search needs)
-    (λ c. search needs) element-copy-out-seen (λ c κs. search needs) (λ c κs. search needs) (λ c. search needs)
-    (λ c. search needs) (λ c κs. search needs) (λ c κs. search needs) same-length returns (λ c κs. search needs) mul-write-row sub-write-row
-    part-write-row-start (λ c. search needs) write-row-requires tally-requires sub-tally tally-requires-2 mul-next
-    element-set-from-next (λ c κs. search needs) (λ c κs. search needs) (λ c κs. search needs) (λ c κs. search needs) mul-there
-    element-copy-out-there (λ c κs. search needs) (λ c. omega (arith, place-there (place c)))
-    element-set-from-state add-i loop-less loop-again (λ c κs. search needs) same-length-2 returns-2)
+    (tie.spec Inv-loop μ-loop (λ c κs. search needs) loop-holds (λ c. search needs) cast-task mul-own element-copy-out-own (λ c. search needs)
+    (λ c. search needs) element-copy-out-seen (λ c κs. search needs) (λ c κs. search needs) (λ c κs. search needs) (λ c. search needs)
+    (λ c. search needs) (λ c κs. search needs) sub-report (λ c κs. search needs) same-length same-length-2 returns (λ c κs. search needs)
+    mul-write-row sub-write-row part-write-row-start (λ c. search needs) write-row-requires tally-requires sub-tally tally-requires-2
+    counted-requires mul-next element-set-from-next (λ c κs. search needs) (λ c κs. search needs) (λ c κs. search needs) (λ c κs. search needs)
+    mul-there element-copy-out-there (λ c κs. search needs) (λ c. omega (arith, place-there (place c))) element-set-from-state add-i loop-less
+    loop-again sub-report-2 (λ c κs. search needs) same-length-3 same-length-4 returns-2)

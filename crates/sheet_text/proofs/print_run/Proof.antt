@@ -60,7 +60,8 @@ table-requires : tie.Need-table-requires
 table-requires c κs =
     let r = c .before .before in
     let s = begun r in
-    (range (s .args .state) (s .pre .0) .few, rw (shown r) (table-fits (s .args .state) (s .args .schedule .now) (s .pre .0) (omega (arith, s .pre .1))))
+    let known = range (s .args .state) (s .pre .0) in
+    ((known .some, known .few), rw (shown r) (table-fits (s .args .state) (s .args .schedule .now) (s .pre .0) (omega (arith, s .pre .1))))
 
 returns-2 : tie.Need-returns-2
 returns-2 c =

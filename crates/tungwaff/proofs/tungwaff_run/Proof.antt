@@ -6,7 +6,7 @@ use Rattle.tungwaff.proofs.tungwaff_run.Tie as tie
 returns : tie.Need-returns
 returns c =
     let r = c .before .before .whole-run in
-    (rw (r .ensures .0), (rw (r .ensures .0), r .ensures .1))
+    (rw (r .ensures .0), (rw (r .ensures .0), (rw (r .ensures .0), r .ensures .1)))
 
 pub tungwaff-run-spec : {M : Type 1} → statement M
 tungwaff-run-spec = tie.close (tie.spec (λ c κs. search needs) (λ c. search needs) returns)

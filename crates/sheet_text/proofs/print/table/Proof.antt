@@ -13,10 +13,10 @@ use Rattle.sheet_text.proofs.print.table.Tie as tie
 
 -- there is room for every part
 room : (c : tie.Start) → let a = c .args in
-    (a .n ≤ 64) × (43 + length (rowsBy (ranRow (a .ran)) (a .n)) + length (decimal (a .passes)) + length (decimal (leastUpTo (a .ran .state) (a .n - 1))) ≤ 2048)
+    (1 ≤ a .n) × (a .n ≤ 64) × (43 + length (rowsBy (ranRow (a .ran)) (a .n)) + length (decimal (a .passes)) + length (decimal (leastUpTo (a .ran .state) (a .n - 1))) ≤ 2048)
 room c =
     let a = c .args in
-    (c .pre .0, omega (arith, c .pre .1, table-length (rowsBy (ranRow (a .ran)) (a .n)) (a .passes) (leastUpTo (a .ran .state) (a .n - 1))))
+    (c .pre .0 .0, c .pre .0 .1, omega (arith, c .pre .1, table-length (rowsBy (ranRow (a .ran)) (a .n)) (a .passes) (leastUpTo (a .ran .state) (a .n - 1))))
 
 -- ---- from a part to the one before it
 

@@ -1,0 +1,3 @@
+-- The definitions of the crate (`Counts`), then their laws.
+pub mod Counts
+pub mod CountsLaws

@@ -1,0 +1,12 @@
+//! The numbers of the fields in request 6.
+
+pub const LINE: u64 = 0;
+pub const COUNT: u64 = 1;
+pub const TAG: u64 = 2;
+pub const LIST: u64 = 4;
+pub const LOOKED: u64 = 5;
+pub const AIM: u64 = 6;
+pub const TOGGLE: u64 = 7;
+pub const FLAG: u64 = 8;
+pub const ARRIVALS: u64 = 12;
+pub const START: u64 = 15;
