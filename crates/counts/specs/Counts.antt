@@ -19,6 +19,12 @@ standing f (suc n) c = standing f n c + pick (eqb (f n) c) 1 0
 abbrev pub leastOf : (ℕ → ℕ) → ℕ → Least
 leastOf f n = record { count = lowest f (n - 1); tasks = standing f n (lowest f (n - 1)) }
 
+-- the same with one task more, which has this count
+abbrev pub joinedOf : Least → ℕ → Least
+joinedOf l count =
+    pick (ltb count (l .count)) (record { count = count; tasks = 1 })
+    (pick (eqb count (l .count)) (record { count = count; tasks = l .tasks + 1 }) l)
+
 -- 1 if a task whose count goes from `count` to `next` takes the least count with it: it stood there, and no other did; else 0
 abbrev pub closesOf : Least → ℕ → ℕ → ℕ
 closesOf l count next = pick (not (eqb next count) && eqb count (l .count) && eqb (l .tasks) 1) 1 0

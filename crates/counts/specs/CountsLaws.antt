@@ -11,13 +11,13 @@ use native.Mathlib.Omega.{arith}
 use lib.Dec.{eqb, ltb}
 use lib.ListN.{length, getD, take}
 use lib.Seq.{getD-take, length-take-le}
-use borrow.Author.Tests.{eq-eqb, ne-eqb, lt-ltb, le-ltb, eqb-true, eqb-false}
+use borrow.Author.Tests.{eq-eqb, ne-eqb, lt-ltb, le-ltb, eqb-true}
 use Rattle.bitset.specs.Choice.{pick}
 use Rattle.bitset.specs.ChoiceLaws.{by-test}
 use Rattle.bitset.specs.Table.{table}
 use Rattle.bitset.specs.TableLaws.{table-at}
 use Rattle.counts.specs.declared.Least.{Least}
-use Rattle.counts.specs.Counts.{lowest, standing, leastOf, closesOf, risenOf}
+use Rattle.counts.specs.Counts.{lowest, standing, leastOf, joinedOf, closesOf, risenOf}
 
 -- ---- the lowest count
 
@@ -135,13 +135,8 @@ least-lent l n some room =
 pub least-table : (f : ℕ → ℕ) (n m : ℕ) → 0 < n → n ≤ m → leastOf (λ q. getD (table m f) q 0) n ≡ leastOf f n
 least-table f n m some room = least-same f (λ q. getD (table m f) q 0) n some (λ q h. table-at m f q 0 (omega arith))
 
--- the least count with one task more: it is found task by task
-abbrev pub joined : Least → ℕ → Least
-joined l count =
-    pick (ltb count (l .count)) (record { count = count; tasks = 1 })
-    (pick (eqb count (l .count)) (record { count = count; tasks = l .tasks + 1 }) l)
-
-pub least-more : (f : ℕ → ℕ) (q : ℕ) → leastOf f (q + 1) ≡ joined (leastOf f q) (f q)
+-- it is found task by task
+pub least-more : (f : ℕ → ℕ) (q : ℕ) → leastOf f (q + 1) ≡ joinedOf (leastOf f q) (f q)
 least-more f zero =
     rw (standing-more f 0 (lowest f 0), standing-none f (lowest f 0), lowest-first f, le-ltb (f 0) (f 0) (omega arith), eq-eqb (f 0) (f 0) refl)
 least-more f (suc m) =
@@ -158,7 +153,7 @@ least-more f (suc m) =
           count = min low (f (suc m));
           tasks = standing f (suc m) (min low (f (suc m))) + pick (eqb (f (suc m)) (min low (f (suc m)))) 1 0;
         }
-        ≡ joined (record { count = low; tasks = standing f (suc m) low }) (f (suc m))
+        ≡ joinedOf (record { count = low; tasks = standing f (suc m) low }) (f (suc m))
     go (yes l) e =
         let new : min low (f (suc m)) ≡ f (suc m) = omega arith in
         rw (new, lt-ltb (f (suc m)) low l, standing-zero f (suc m) (f (suc m)) (λ q h. omega (arith, lowest-le f m q (omega arith))), eq-eqb (f (suc m)) (f (suc m)) refl)
@@ -267,15 +262,3 @@ module _ (f g : ℕ → ℕ) (n p : ℕ) (here : p < n) (other : (q : ℕ) → q
         go (inr up) (yes e) (yes many) =
             rise-fewer up e many ∙ rw (ne-eqb (g p) (f p) (omega arith), eq-eqb (f p) low e, lt-ltb 1 (standing f n low) many)
         go (inr up) (yes e) (no few) = rw (ne-eqb (g p) (f p) (omega arith), eq-eqb (f p) low e, le-ltb 1 (standing f n low) (omega arith))
-
-    -- it never falls, and rises by one at most
-    pub rise-up : low ≤ lowest g (n - 1)
-    rise-up = let a = lowest-attained g (n - 1) in omega (arith, a .2, step (a .0), below (a .0) (omega (arith, a .1)))
-      where
-        step : (q : ℕ) → f q ≤ g q
-        step q = go (ℕ-discrete q p) c
-          where
-            go : Dec (q ≡ p) → KeptOrRaised (f p) (g p) → f q ≤ g q
-            go (yes s) (inl e) = rw s (omega arith)
-            go (yes s) (inr e) = rw s (omega arith)
-            go (no ne) k = omega (arith, other q ne)

@@ -4,7 +4,6 @@ ghost use mathlib.Core.Path.{_≡_};
 ghost use Prim.Native.Nat.{_+_, _<_, _^_};
 ghost use lib.ListN.{length, getD};
 ghost use Rattle.counts.specs.Counts as defs;
-ghost use Rattle.counts.specs.CountsLaws as laws;
 
 // The least count, and how many tasks stand at it.
 pub struct Least {
@@ -35,7 +34,7 @@ fn first(counts: &[u32]) -> u32
 // The least count with one task more, which has this count.
 fn joined(least: Least, count: u32) -> Least
     requires { ⌜ least .tasks + 1 < 2 ^ 64 ⌝ }
-    ensures { λ r. ⌜ r ≡ laws.joined least count ⌝ }
+    ensures { λ r. ⌜ r ≡ defs.joinedOf least count ⌝ }
 {
     if count < least.count {
         return Least { count, tasks: 1 };

@@ -139,9 +139,6 @@ fresh-parents i a =
     zeros : ℕ → List ℕ
     zeros k = replicate k 0
 
-    reason : ℕ
-    reason = parentsReason (i .kind) (i .n) (i .parents)
-
     tree : eqb (i .kind) 3 ≡ true → eqb (checkOf (tableOf (freshState i)) (i .n)) 0 && allZero (drop (i .n) (padded (i .parents))) ≡ true
     tree k =
         let table : checkOf (i .parents) (i .n) ≡ 0 = rw k at (a .parents) in

@@ -9,7 +9,7 @@ use lib.ListN.{length, getD, take}
 use borrow.Author.Tests.{ltb-true, ltb-false}
 use Rattle.bitset.specs.ChoiceLaws.{by-test}
 use Rattle.bitset.specs.TableLaws.{length-table}
-use Rattle.counts.specs.Counts.{lowest, leastOf, closesOf}
+use Rattle.counts.specs.Counts.{leastOf, closesOf}
 use Rattle.counts.specs.CountsLaws.{KeptOrRaised, least-lent, least-table, rise-closes}
 use Rattle.lines.specs.declared.Task.{Task}
 use Rattle.lines.specs.declared.Effect.{Effect}
@@ -20,15 +20,15 @@ use Rattle.lines.specs.LineLaws.{Does, keeps, raises, stays, refused-7, refused
 use Rattle.machine.specs.declared.State.{State}
 use Rattle.machine.specs.declared.Move.{Move}
 use Rattle.machine.specs.declared.Move.the-variants.{Moved, Waited}
-use Rattle.machine.specs.declared.Outcome.the-variants.{Made, Refused}
+use Rattle.machine.specs.declared.Outcome.the-variants.{Made}
 use Rattle.machine.specs.declared.Turned.{Turned}
-use Rattle.machine.specs.Setters.{taskAt, withTask}
+use Rattle.machine.specs.Setters.{taskAt}
 use Rattle.machine.specs.Range.{Valid}
 use Rattle.machine.specs.RangeLaws.{range, present}
 use Rattle.machine.specs.Least.{countOf, countsOf, least, closedBy}
 use Rattle.machine.specs.LeastLaws.{least-le, least-attained}
-use Rattle.machine.specs.Turn.{sharedOf, effectOf, outcomeOf, written, applied, turnOf, closedNumber}
-use Rattle.machine.specs.TurnLaws.{by-turn, turn-step, effect-does, step-state, step-outcome, moved-acts, waited-still, turn-constants, moved-n, stored-written, turn-made, own-field, other-field}
+use Rattle.machine.specs.Turn.{sharedOf, effectOf, outcomeOf, movedTo, applied, turnOf, closedNumber}
+use Rattle.machine.specs.TurnLaws.{by-turn, turn-step, effect-does, step-state, step-outcome, moved-acts, waited-still, turn-constants, moved-n, stored-moved, turn-made, own-field, other-field}
 use Rattle.machine.specs.CountLaws.{turn-rises, turn-least}
 
 -- ---- the counts as they are lent
@@ -59,7 +59,7 @@ kept-or-raised s p = go (effectOf s p) (effect-does s p)
 module _ (s : State) (p : ℕ) (ok : Valid s) (h : p < s .n) where
   -- the state with what the effect has stored
   abbrev after : State
-  after = written (effectOf s p .write) (withTask s p (effectOf s p .task))
+  after = movedTo s p (effectOf s p .task) (effectOf s p .write)
 
   abbrev count : Task → ℕ
   count t = t .count
@@ -83,7 +83,7 @@ module _ (s : State) (p : ℕ) (ok : Valid s) (h : p < s .n) where
   -- after a turn that is made the own task has the effect's count, and every other the one it had
   module _ (how : Move) (made : turnOf s p .outcome ≡ Made how) where
     after-turn : turnOf s p .state ≡ after
-    after-turn = ap (λ (r : Turned). r .state) (turn-made s p ok h how (sym (ap (λ (r : Turned). r .outcome) (turn-step s p ok h) ∙ step-outcome s p) ∙ made)) ∙ stored-written s p (effectOf s p)
+    after-turn = ap (λ (r : Turned). r .state) (turn-made s p ok h how (sym (ap (λ (r : Turned). r .outcome) (turn-step s p ok h) ∙ step-outcome s p) ∙ made)) ∙ stored-moved s p (effectOf s p)
 
     pub own-after : countOf (turnOf s p .state) p ≡ effectOf s p .task .count
     own-after = ap (λ (x : State). countOf x p) after-turn ∙ own-count
@@ -99,7 +99,7 @@ turn-closed s p c =
     by-turn (λ r. r .outcome ≡ Made (Moved c) → c ≡ closedBy s (r .state)) s p (λ k e. let z : _≡_ {A = ℕ} 0 1 = cc in absurd (omega arith))
     (λ ok h e. rw (step-state s p) (go (effectOf s p .act) _ (effectOf s p .task) (effectOf s p .write) refl (sym (step-outcome s p) ∙ e)))
   where
-    go : (a : Act) (x : ℕ) (t : Task) (w : Write) → x ≡ closedBy s (written w (withTask s p t)) → outcomeOf a x ≡ Made (Moved c)
+    go : (a : Act) (x : ℕ) (t : Task) (w : Write) → x ≡ closedBy s (movedTo s p t w) → outcomeOf a x ≡ Made (Moved c)
         → c ≡ closedBy s (applied (outcomeOf a x) s p t w)
     go Moves x t w d e = let same : x ≡ c = cc in sym same ∙ d
     go Waits x t w d e = let z : _≡_ {A = ℕ} 0 1 = cc in absurd (omega arith)

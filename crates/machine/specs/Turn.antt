@@ -48,14 +48,17 @@ written (Sense x) s = withSense s x
 written (Toggle q x) s = withTask s q (withToggle (taskAt s q) x)
 written (Flag q x) s = withTask s q (withFlag (taskAt s q) x)
 
--- the answer of a turn of p, by what its line does: a move writes the own task, then the shared word, and closes a round if the least
--- count rises by that
+-- the state that a move of p leaves: the own task is stored, then the shared word
+abbrev pub movedTo : State → ℕ → Task → Write → State
+movedTo s p t w = written w (withTask s p t)
+
+-- the answer of a turn of p, by what its line does: a move closes a round if the least count rises by it
 abbrev pub answerOf : State → ℕ → Effect → Outcome
-answerOf s p e = outcomeOf (e .act) (closedBy s (written (e .write) (withTask s p (e .task))))
+answerOf s p e = outcomeOf (e .act) (closedBy s (movedTo s p (e .task) (e .write)))
 
 -- what the outcome makes of the state; "a turn that waits changes nothing"
 abbrev pub applied : Outcome → State → ℕ → Task → Write → State
-applied (Made (Moved closed)) s p t w = written w (withTask s p t)
+applied (Made (Moved closed)) s p t w = movedTo s p t w
 applied (Made Waited) s p t w = s
 applied (Refused k) s p t w = s
 
@@ -82,14 +85,14 @@ abbrev pub moveNumber : Move → ℕ
 moveNumber (Moved closed) = 1
 moveNumber Waited = 0
 
--- and what the answer carries: 1 if the turn closed a round, 0 if it didn't, which is so for one that waited
-abbrev pub closedNumber : Move → ℕ
-closedNumber (Moved closed) = closed
-closedNumber Waited = 0
-
 abbrev pub reasonNumber : Outcome → ℕ
 reasonNumber (Made m) = 0
 reasonNumber (Refused k) = k
+
+-- what the answer of a turn that was made carries: 1 if it closed a round, else 0; one that waited carries nothing, and closed none
+abbrev pub closedNumber : Move → ℕ
+closedNumber (Moved closed) = closed
+closedNumber Waited = 0
 
 -- whether the answer is moved
 abbrev pub isMoved : Outcome → Bool

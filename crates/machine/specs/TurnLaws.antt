@@ -35,7 +35,7 @@ use Rattle.machine.specs.declared.Turned.{Turned}
 use Rattle.machine.specs.Setters.{taskAt, withTask, withTasks, withArrivals, withSense}
 use Rattle.machine.specs.Range.{tableOf, checkState, Valid}
 use Rattle.machine.specs.Least.{closedBy}
-use Rattle.machine.specs.Turn.{sharedOf, effectOf, outcomeOf, written, answerOf, applied, stepOf, refusedTurn, turnOf}
+use Rattle.machine.specs.Turn.{sharedOf, effectOf, outcomeOf, written, movedTo, answerOf, applied, stepOf, refusedTurn, turnOf}
 
 -- ---- by cases
 
@@ -111,7 +111,7 @@ acts-move (Refuses k) closed c e = cc
 
 -- a turn is answered moved where its line moves
 pub turn-moves : (s : State) (p : ℕ) → Valid s → p < s .n → effectOf s p .act ≡ Moves
-    → turnOf s p .outcome ≡ Made (Moved (closedBy s (written (effectOf s p .write) (withTask s p (effectOf s p .task)))))
+    → turnOf s p .outcome ≡ Made (Moved (closedBy s (movedTo s p (effectOf s p .task) (effectOf s p .write))))
 turn-moves s p ok h e = rw (turn-step s p ok h, step-outcome s p, e)
 
 pub moved-acts : (s : State) (p c : ℕ) → turnOf s p .outcome ≡ Made (Moved c) → (p < s .n) × (effectOf s p .act ≡ Moves)
@@ -190,8 +190,8 @@ stored-move (Sense x) s p u = ap (λ (ts : List Task). withSense (withTasks s ts
 stored-move (Toggle q x) s p u = refl
 stored-move (Flag q x) s p u = refl
 
-pub stored-written : (s : State) (p : ℕ) (e : Effect) → stored s p e ≡ written (e .write) (withTask s p (e .task))
-stored-written s p e = sym (stored-move (e .write) s p (e .task))
+pub stored-moved : (s : State) (p : ℕ) (e : Effect) → stored s p e ≡ movedTo s p (e .task) (e .write)
+stored-moved s p e = sym (stored-move (e .write) s p (e .task))
 
 -- a wait's effect has the task that stood there, and writes nothing
 stored-stays : (s : State) (p : ℕ) → s ≡ stored s p (waits (taskAt s p))
@@ -255,7 +255,7 @@ constants-written (Toggle q x) s p t = record { kind = refl; n = refl; modulus =
 constants-written (Flag q x) s p t = record { kind = refl; n = refl; modulus = refl; parents = refl }
 
 -- so N is the same once a move is stored
-pub moved-n : (s : State) (p : ℕ) (t : Task) (w : Write) → written w (withTask s p t) .n ≡ s .n
+pub moved-n : (s : State) (p : ℕ) (t : Task) (w : Write) → movedTo s p t w .n ≡ s .n
 moved-n s p t w = constants-written w s p t .n
 
 constants-applied : (o : Outcome) (s : State) (p : ℕ) (t : Task) (w : Write) → Constants s (applied o s p t w)

@@ -12,8 +12,6 @@ use lib.Seq.{getD-take, length-take-le, getD-set-same, getD-set-other, take-suc,
 use borrow.Author.Tests.{eq-eqb, ne-eqb}
 use borrow.Rule.Slice.PartMut.{putMid}
 use Rattle.lines.specs.declared.Effect.{Effect}
-use Rattle.lines.specs.declared.Task.{Task}
-use Rattle.lines.specs.Setters.{zeroTask}
 use Rattle.lines.specs.Rule.{effectFrom}
 use Rattle.lines.specs.Words.{placeOf}
 use Rattle.counts.specs.declared.Least.{Least}
@@ -24,13 +22,13 @@ use Rattle.machine.specs.declared.Move.{Move}
 use Rattle.machine.specs.declared.Move.the-variants.{Moved, Waited}
 use Rattle.machine.specs.declared.Turned.{Turned}
 use Rattle.machine.specs.declared.Outcome.the-variants.{Made, Refused}
-use Rattle.machine.specs.Setters.{taskAt, withTask}
+use Rattle.machine.specs.Setters.{taskAt}
 use Rattle.machine.specs.Range.{Valid, tableOf}
 use Rattle.machine.specs.Least.{countOf, countsOf, closedBy}
 use Rattle.machine.specs.Least as count
 use Rattle.machine.specs.LeastLaws.{least-is}
 use Rattle.machine.specs.RoundLaws.{lent-there, kept-or-raised, closed-is, own-after, other-after}
-use Rattle.machine.specs.Turn.{sharedOf, effectOf, outcomeOf, written, answerOf, turnOf, moveNumber}
+use Rattle.machine.specs.Turn.{sharedOf, effectOf, outcomeOf, movedTo, answerOf, turnOf, moveNumber}
 use Rattle.machine.specs.TurnLaws.{effect-rule, stored, turn-made, turn-refused, turn-constants}
 use Rattle.machine.specs.KeepLaws.{turn-valid, looked-known, place-known}
 use Rattle.machine.specs.RangeLaws.{range}
@@ -46,14 +44,14 @@ use Rattle.runner.specs.declared.Ending.the-variants.{Stopped}
 use Rattle.runner.specs.Run.{ranOf, tallyIn, movesIn, waitsIn, waitNumber, roundsIn, logOf, loggedOf}
 
 -- the counts of the n tasks of a state, in a list
-pub record Counted (n : ℕ) (counts : List ℕ) (state : State) : Type 0 where
+pub record Mirrors (n : ℕ) (counts : List ℕ) (state : State) : Type 0 where
   pub long : length counts ≡ n
   pub at : (q : ℕ) → q < n → getD counts q 0 ≡ countOf state q
 
 -- the least of them
-counted-least : {n : ℕ} {counts : List ℕ} {state : State} → Counted n counts state → 0 < n
+mirrors-least : {n : ℕ} {counts : List ℕ} {state : State} → Mirrors n counts state → 0 < n
     → leastOf (λ q. getD counts q 0) (length counts) ≡ leastOf (countOf state) n
-counted-least {n} {counts} {state} k some =
+mirrors-least {n} {counts} {state} k some =
     rw (k .long) (least-same (countOf state) (λ q. getD counts q 0) n some (k .at))
 
 -- what the loop carries besides the state
@@ -73,12 +71,12 @@ pub record Going (s : State) (schedule log₀ : List ℕ) (i : ℕ) (state : Sta
   pub valid : Valid state
   pub tasks : state .n ≡ s .n
   pub parents : state .parents ≡ s .parents
-  pub counted : Counted (s .n) (held .counts) state
+  pub mirrors : Mirrors (s .n) (held .counts) state
   pub lowest : held .least ≡ leastOf (countOf state) (s .n)
 
 -- the counts as they are lent
-counted-lent : (s : State) (counts : List ℕ) → Valid s → counts ≡ take (s .n) (countsOf s) → Counted (s .n) counts s
-counted-lent s counts ok lent =
+mirrors-lent : (s : State) (counts : List ℕ) → Valid s → counts ≡ take (s .n) (countsOf s) → Mirrors (s .n) counts s
+mirrors-lent s counts ok lent =
     let few = range s ok .few in
     record {
       long = ap length lent ∙ length-take-le (s .n) (countsOf s) (lent-there s (s .n) few (countsOf s) refl);
@@ -102,8 +100,8 @@ going-none s schedule log₀ counts least ok lent e =
       valid = ok;
       tasks = refl;
       parents = refl;
-      counted = counted-lent s counts ok lent;
-      lowest = e ∙ counted-least (counted-lent s counts ok lent) (range s ok .some);
+      mirrors = mirrors-lent s counts ok lent;
+      lowest = e ∙ mirrors-least (mirrors-lent s counts ok lent) (range s ok .some);
     }
 
 -- the least count before the first turn
@@ -163,7 +161,7 @@ module _ {s : State} {schedule log₀ : List ℕ} {i : ℕ} {state : State} {hel
 
   -- and so do the counts
   pub counts-long : (counts₀ : List ℕ) → Valid s → counts₀ ≡ take (s .n) (countsOf s) → length (held .counts) ≡ length counts₀
-  counts-long counts₀ ok lent = g .counted .long ∙ sym (counted-lent s counts₀ ok lent .long)
+  counts-long counts₀ ok lent = g .mirrors .long ∙ sym (mirrors-lent s counts₀ ok lent .long)
 
   -- no tally is more than the turns so far
   tally-room : (weight : Move → ℕ) → ((how : Move) → weight how ≤ 1) → (tallies : List ℕ) (p : ℕ)
@@ -236,13 +234,13 @@ module _ {s : State} {schedule log₀ : List ℕ} {i : ℕ} {state : State} {hel
 
   -- its count is the one in the list
   pub count-there : p < length (held .counts)
-  count-there = rw (g .counted .long, ← g .tasks) known
+  count-there = rw (g .mirrors .long, ← g .tasks) known
 
   own-count : getD (held .counts) p 0 ≡ countOf state p
-  own-count = g .counted .at p (rw (← g .tasks) known)
+  own-count = g .mirrors .at p (rw (← g .tasks) known)
 
   pub least-there : held .least ≡ leastOf (λ q. getD (held .counts) q 0) (length (held .counts))
-  least-there = g .lowest ∙ sym (counted-least (g .counted) (rw (← g .tasks) (range state (g .valid) .some)))
+  least-there = g .lowest ∙ sym (mirrors-least (g .mirrors) (rw (← g .tasks) (range state (g .valid) .some)))
 
   module _ (e : Effect) (does : e ≡ effectOf state p) where
     -- what the turn answers, by whether it closes a round
@@ -250,7 +248,7 @@ module _ {s : State} {schedule log₀ : List ℕ} {i : ℕ} {state : State} {hel
     answer-is closed c =
         ap (outcomeOf (e .act))
         (c ∙ ap (λ (l : Least). closesOf l (countOf state p) (e .task .count)) (g .lowest ∙ ap (leastOf (countOf state)) (sym (g .tasks)))
-        ∙ subst (λ (x : Effect). closesOf (leastOf (countOf state) (state .n)) (countOf state p) (x .task .count) ≡ closedBy state (written (x .write) (withTask state p (x .task))))
+        ∙ subst (λ (x : Effect). closesOf (leastOf (countOf state) (state .n)) (countOf state p) (x .task .count) ≡ closedBy state (movedTo state p (x .task) (x .write)))
         (sym does) (closed-is state p (g .valid) known))
 
     -- its count stays or rises by one
@@ -314,10 +312,10 @@ module _ {s : State} {schedule log₀ : List ℕ} {i : ℕ} {state : State} {hel
           ∙ rw (drop-drop, more, log-more, append-assoc)
 
       -- the counts after it
-      counted-more : Counted (s .n) (set (held .counts) p (e .task .count)) (turnOf state p .state)
-      counted-more =
+      mirrors-more : Mirrors (s .n) (set (held .counts) p (e .task .count)) (turnOf state p .state)
+      mirrors-more =
           record {
-            long = length-set (held .counts) p (e .task .count) ∙ g .counted .long;
+            long = length-set (held .counts) p (e .task .count) ∙ g .mirrors .long;
             at = λ q h. at q h (ℕ-discrete q p);
           }
         where
@@ -330,7 +328,7 @@ module _ {s : State} {schedule log₀ : List ℕ} {i : ℕ} {state : State} {hel
               (getD-set-same (held .counts) p (e .task .count) 0 count-there ∙ ap (λ (x : Effect). x .task .count) does
               ∙ sym (own-after state p (g .valid) known how answer))
           at q h (no ne) =
-              getD-set-other (held .counts) p q (e .task .count) 0 ne ∙ g .counted .at q h ∙ sym (other-after state p (g .valid) known how answer q ne)
+              getD-set-other (held .counts) p q (e .task .count) 0 ne ∙ g .mirrors .at q h ∙ sym (other-after state p (g .valid) known how answer q ne)
 
       pub goes-on : (byte : ℕ) (state′ : State) (moves′ waits′ counts′ : List ℕ) (least′ : Least) (tail : List ℕ) → byte ≡ moveNumber how → 2 * i + 2 ≤ length log₀
           → state′ ≡ stored state p e
@@ -352,11 +350,11 @@ module _ {s : State} {schedule log₀ : List ℕ} {i : ℕ} {state : State} {hel
             valid = turn-valid state p (g .valid);
             tasks = turn-constants state p .n ∙ g .tasks;
             parents = turn-constants state p .parents ∙ g .parents;
-            counted = after;
+            mirrors = after;
             lowest =
-                el ∙ ap (leastOf (λ q. getD counts′ q 0)) (g .counted .long ∙ sym (after .long))
-                ∙ counted-least after (rw (← g .tasks) (range state (g .valid) .some));
+                el ∙ ap (leastOf (λ q. getD counts′ q 0)) (g .mirrors .long ∙ sym (after .long))
+                ∙ mirrors-least after (rw (← g .tasks) (range state (g .valid) .some));
           })
         where
-          after : Counted (s .n) counts′ (turnOf state p .state)
-          after = rw ec counted-more
+          after : Mirrors (s .n) counts′ (turnOf state p .state)
+          after = rw ec mirrors-more

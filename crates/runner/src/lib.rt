@@ -128,9 +128,9 @@ fn report(
     }
 }
 
-// Keeps the counts, and the least of them, as a task's count goes to `next`. The counts are gone over only where the last task that stood at
-// the least has risen.
-fn counted(counts: &mut [u32], least: Least, task: usize, next: u32) -> Least
+// Stores a task's count, and answers the least of the counts then. They are gone over only where the last task that stood at the least has
+// risen.
+fn store_count(counts: &mut [u32], least: Least, task: usize, next: u32) -> Least
     requires { ⌜ task < length (now counts) ⌝ }
     requires { ⌜ least ≡ leastOf (λ q. getD (now counts) q 0) (length (now counts)) ⌝ }
     requires { ⌜ KeptOrRaised (getD (now counts) task 0) next ⌝ }
@@ -196,7 +196,7 @@ fn turns(
         write_row(&mut log[2 * i..], own.line, moved);
         tally(&mut moves, task, moved);
         tally(&mut waits, task, 1 - moved);
-        least = counted(counts, least, task, next.count);
+        least = store_count(counts, least, task, next.count);
         let write = effect.write;
         state.tasks[task] = next;
         if write.writes() {

@@ -2,12 +2,12 @@
 use borrow.Author.Needs.{needs}
 use mathlib.Core.Path.{_≡_, sym, ap, _∙_}
 use mathlib.Core.List.{List}
-use Prim.Native.Nat.{ℕ, _+_, _-_, _≤_}
+use Prim.Native.Nat.{ℕ, _-_, _≤_}
 use native.Mathlib.Omega.{arith}
 use lib.ListN.{length, getD}
 use Rattle.counts.specs.declared.Least.{Least}
-use Rattle.counts.specs.Counts.{lowest, leastOf}
-use Rattle.counts.specs.CountsLaws.{lowest-first, standing-none, standing-few, joined, least-more}
+use Rattle.counts.specs.Counts.{lowest, leastOf, joinedOf}
+use Rattle.counts.specs.CountsLaws.{lowest-first, standing-none, standing-few, least-more}
 use Rattle.counts.proofs.least_of.Statement.{statement}
 use Rattle.counts.proofs.least_of.Tie as tie
 
@@ -40,7 +40,7 @@ loop-again c =
     let l = c .before .before .before in
     let f = at (l .before .before .before .args .counts .now) in (
       omega (arith, c .before .before .loop-test .taken),
-      c .joined .ensures ∙ ap (λ (x : Least). joined x (f (l .loop .q))) (l .loop .inv .1) ∙ sym (least-more f (l .loop .q)),
+      c .joined .ensures ∙ ap (λ (x : Least). joinedOf x (f (l .loop .q))) (l .loop .inv .1) ∙ sym (least-more f (l .loop .q)),
     )
 
 returns : tie.Need-returns Inv-loop μ-loop

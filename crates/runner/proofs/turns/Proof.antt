@@ -277,8 +277,8 @@ tally-requires-2 c κs =
     let t = made (waited c) in
     (own-there t, omega (arith, at.waits-room (going (t .before)) (task t) (own-there t), soon t))
 
-counted-requires : tie.Need-counted-requires Inv-loop μ-loop
-counted-requires c κs =
+store-count-requires : tie.Need-store-count-requires Inv-loop μ-loop
+store-count-requires c κs =
     let a = acted (answered (waited (c .before .before))) in
     let n = next (turn a) in
     (at.count-there n, (at.least-there n, at.count-rises n (a .effect-of .result) (effect-is a)))
@@ -316,7 +316,7 @@ loop-again c =
     let t = turn a in
     let answer = outcome-is o _ (told m .outcome .given .1) in
     let on = at.goes-on (next t) (a .effect-of .result) (effect-is a) (how m) answer (m .move-byte .result) _ _ _ _ _ _ (m .move-byte .ensures) (row-there t)
-    (stores c) (v .tally .ensures) (w .tally2 .ensures) (k .counted .ensures .0) (k .counted .ensures .1) (row (v .before) .write-row .ensures) in
+    (stores c) (v .tally .ensures) (w .tally2 .ensures) (k .store-count .ensures .0) (k .store-count .ensures .1) (row (v .before) .write-row .ensures) in
     (omega (arith, t .loop-test .taken), on)
 
 sub-report-2 : tie.Need-sub-report-2 Inv-loop μ-loop
@@ -343,6 +343,6 @@ turns-spec =
     (λ c. search needs) element-copy-out-seen (λ c κs. search needs) (λ c κs. search needs) (λ c κs. search needs) (λ c. search needs)
     (λ c. search needs) (λ c κs. search needs) sub-report (λ c κs. search needs) same-length same-length-2 returns (λ c κs. search needs)
     mul-write-row sub-write-row part-write-row-start (λ c. search needs) write-row-requires tally-requires sub-tally tally-requires-2
-    counted-requires mul-next element-set-from-next (λ c κs. search needs) (λ c κs. search needs) (λ c κs. search needs) (λ c κs. search needs)
+    store-count-requires mul-next element-set-from-next (λ c κs. search needs) (λ c κs. search needs) (λ c κs. search needs) (λ c κs. search needs)
     mul-there element-copy-out-there (λ c κs. search needs) (λ c. omega (arith, place-there (place c))) element-set-from-state add-i loop-less
     loop-again sub-report-2 (λ c κs. search needs) same-length-3 same-length-4 returns-2)

@@ -7,9 +7,8 @@ use Rattle.counts.specs.Counts.{leastOf, closesOf}
 use Rattle.lines.specs.declared.Effect.{Effect}
 use Rattle.machine.specs.declared.Outcome.{Outcome}
 use Rattle.machine.specs.declared.State.{State}
-use Rattle.machine.specs.Setters.{withTask}
 use Rattle.machine.specs.Least.{countOf, closedBy}
-use Rattle.machine.specs.Turn.{effectOf, outcomeOf, written, answerOf}
+use Rattle.machine.specs.Turn.{effectOf, outcomeOf, movedTo, answerOf}
 use Rattle.machine.specs.TurnLaws.{stored, stored-is, step-made, step-refused}
 use Rattle.machine.specs.RangeLaws.{range}
 use Rattle.machine.specs.KeepLaws.{place-known}
@@ -40,7 +39,7 @@ answer-is c =
     ∙ ap (outcomeOf (acted c .effect .result .act))
     (c .before .closes .ensures ∙ ap (λ (x : Effect). closesOf (leastOf (countOf s) (s .n)) (countOf s p) (x .task .count)) e
     ∙ closed-is s p (start c .pre .0) (start c .pre .1))
-    ∙ ap (λ (x : Effect). outcomeOf (x .act) (closedBy s (written (effectOf s p .write) (withTask s p (effectOf s p .task))))) e
+    ∙ ap (λ (x : Effect). outcomeOf (x .act) (closedBy s (movedTo s p (effectOf s p .task) (effectOf s p .write)))) e
 
 outcome-is : (c : tie.After-of) (o : Outcome) → c .of .result ≡ o → answerOf (self c) (task c) (effectOf (self c) (task c)) ≡ o
 outcome-is c o e = sym (answer-is c) ∙ e

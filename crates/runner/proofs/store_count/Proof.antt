@@ -1,9 +1,8 @@
--- `runner::counted` meets its contract: the least count after is what the law of a count that rises says, by the same test.
+-- `runner::store_count` meets its contract: the least count after is what the law of a count that rises says, by the same test.
 use borrow.Author.Needs.{needs}
 use mathlib.Core.Path.{_≡_, refl, sym, ap, _∙_, subst}
 use mathlib.Core.Bool.{Bool, true, false, _&&_, not}
 use mathlib.Core.List.{List}
-use mathlib.Core.Logic.{_≢_}
 use Prim.Native.Nat.{ℕ, _<_}
 use lib.Dec.{eqb}
 use lib.ListN.{length, getD, set, length-set}
@@ -12,8 +11,8 @@ use Rattle.bitset.specs.Choice.{pick}
 use Rattle.counts.specs.declared.Least.{Least}
 use Rattle.counts.specs.Counts.{leastOf, risenOf}
 use Rattle.counts.specs.CountsLaws.{KeptOrRaised, rise-least}
-use Rattle.runner.proofs.counted.Statement.{statement}
-use Rattle.runner.proofs.counted.Tie as tie
+use Rattle.runner.proofs.store_count.Statement.{statement}
+use Rattle.runner.proofs.store_count.Tie as tie
 
 -- the counts as a function of the task
 abbrev at : List ℕ → ℕ → ℕ
@@ -58,8 +57,8 @@ returns-2 c =
     let s = c .before .before .before .before in
     (refl, kept (s .args .counts .now) (s .args .task) (s .args .next) (s .pre .0) (s .pre .1 .1) (s .args .least) (s .pre .1 .0) (c .if1 .left))
 
-pub counted-spec : {M : Type 1} → statement M
-counted-spec =
+pub store-count-spec : {M : Type 1} → statement M
+store-count-spec =
     tie.close
     (tie.spec (λ c. search needs) (λ c. search needs) (λ c. search needs) (λ c. search needs) (λ c κs. search needs) (λ c. search needs)
     returns (λ c. search needs) returns-2)
