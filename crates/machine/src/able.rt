@@ -9,7 +9,7 @@ ghost use Rattle.machine.specs.Range.{Valid};
 ghost use Rattle.machine.specs.Ready as defs;
 
 impl State {
-    // The least task that can move, of a state in range.
+    // The least task that can move, of a state in range. Whether it would close a round is not asked.
     fn able(self) -> Ready
         requires { ⌜ Valid self ⌝ }
         ensures { λ r. ⌜ r ≡ defs.readyFrom self (self .n) 0 ⌝ }

@@ -148,6 +148,7 @@ fn store_count(counts: &mut [u32], least: Least, task: usize, next: u32) -> Leas
 // Makes the first `turns` turns of the schedule, from a state in range, whose parents are lent as `table`: each turn's answer is taken apart,
 // moved and waited go on, a refusal ends the run. The state stays where it is: a turn reads two tasks, and stores what its effect has, whether
 // it moves or waits (what waits has the task that stood there). Which word is written is not asked, only whether one is: most lines write none.
+// The counts are kept besides, as `counts`, with the least of them: the rounds closed are how far that has risen.
 fn turns(
     mut state: State,
     table: &[u8],
