@@ -188,7 +188,7 @@ module _ (f g : ℕ → ℕ) (n p : ℕ) (here : p < n) (other : (q : ℕ) → q
       go (no ne) = other q ne
 
   -- where the count stays, so does the least count
-  pub rise-none : g p ≡ f p → leastOf g n ≡ leastOf f n
+  rise-none : g p ≡ f p → leastOf g n ≡ leastOf f n
   rise-none e = least-same f g n (omega arith) (λ q l. kept (sym e) q)
 
   module _ (up : g p ≡ f p + 1) where
@@ -204,7 +204,7 @@ module _ (f g : ℕ → ℕ) (n p : ℕ) (here : p < n) (other : (q : ℕ) → q
     stays some = let a = standing-some g n low some in lowest-is g (n - 1) low (a .0) (λ r l. above r (omega arith)) (omega (arith, a .1)) (a .2)
 
     -- a count above the least
-    pub rise-other : f p ≢ low → leastOf g n ≡ leastOf f n
+    rise-other : f p ≢ low → leastOf g n ≡ leastOf f n
     rise-other ne = rw (stays (rw same (standing-at f n low (a .0) (omega (arith, a .1)) (sym (a .2)))), same)
       where
         a : (q : ℕ) × (q ≤ n - 1) × (lowest f (n - 1) ≡ f q)
@@ -223,13 +223,13 @@ module _ (f g : ℕ → ℕ) (n p : ℕ) (here : p < n) (other : (q : ℕ) → q
         omega (arith, rw (eq-eqb (f p) low e, ne-eqb (g p) low (omega (arith, up))) at put)
 
     -- where others stand there too it is the same, with one task fewer
-    pub rise-fewer : f p ≡ low → 1 < standing f n low → leastOf g n ≡ record { count = low; tasks = standing f n low - 1 }
+    rise-fewer : f p ≡ low → 1 < standing f n low → leastOf g n ≡ record { count = low; tasks = standing f n low - 1 }
     rise-fewer e many =
         let some : standing g n low ≡ standing f n low - 1 = omega (arith, fewer e) in
         rw (stays (rw some (omega arith)), some)
 
     -- where nobody else stands there it rises
-    pub rise-last : f p ≡ low → standing f n low ≡ 1 → low < lowest g (n - 1)
+    rise-last : f p ≡ low → standing f n low ≡ 1 → low < lowest g (n - 1)
     rise-last e one =
         let a = lowest-attained g (n - 1) in
         let h : a .0 < n = omega (arith, a .1) in

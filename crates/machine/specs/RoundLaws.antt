@@ -64,13 +64,13 @@ module _ (s : State) (p : ℕ) (ok : Valid s) (h : p < s .n) where
   abbrev count : Task → ℕ
   count t = t .count
 
-  pub own-count : countOf after p ≡ effectOf s p .task .count
+  own-count : countOf after p ≡ effectOf s p .task .count
   own-count = own-field count (λ x y. (refl, refl)) (effectOf s p .write) s p (effectOf s p .task) (present s p (range s ok .tasks p h .line-from))
 
-  pub other-count : (q : ℕ) → q ≢ p → countOf after q ≡ countOf s q
+  other-count : (q : ℕ) → q ≢ p → countOf after q ≡ countOf s q
   other-count q ne = other-field count (λ x y. (refl, refl)) (effectOf s p .write) s p q (effectOf s p .task) ne
 
-  pub rises-count : KeptOrRaised (countOf s p) (countOf after p)
+  rises-count : KeptOrRaised (countOf s p) (countOf after p)
   rises-count = rw own-count (kept-or-raised s p)
 
   -- whether it closes a round is told by the least count, how many stand at it, and the own count
@@ -85,11 +85,11 @@ module _ (s : State) (p : ℕ) (ok : Valid s) (h : p < s .n) where
     after-turn : turnOf s p .state ≡ after
     after-turn = ap (λ (r : Turned). r .state) (turn-made s p ok h how (sym (ap (λ (r : Turned). r .outcome) (turn-step s p ok h) ∙ step-outcome s p) ∙ made)) ∙ stored-moved s p (effectOf s p)
 
-    pub own-after : countOf (turnOf s p .state) p ≡ effectOf s p .task .count
-    own-after = ap (λ (x : State). countOf x p) after-turn ∙ own-count
+    pub own-made : countOf (turnOf s p .state) p ≡ effectOf s p .task .count
+    own-made = ap (λ (x : State). countOf x p) after-turn ∙ own-count
 
-    pub other-after : (q : ℕ) → q ≢ p → countOf (turnOf s p .state) q ≡ countOf s q
-    other-after q ne = ap (λ (x : State). countOf x q) after-turn ∙ other-count q ne
+    pub other-made : (q : ℕ) → q ≢ p → countOf (turnOf s p .state) q ≡ countOf s q
+    other-made q ne = ap (λ (x : State). countOf x q) after-turn ∙ other-count q ne
 
 -- ---- what the answer carries
 

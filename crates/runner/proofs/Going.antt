@@ -27,7 +27,7 @@ use Rattle.machine.specs.Range.{Valid, tableOf}
 use Rattle.machine.specs.Least.{countOf, countsOf, closedBy}
 use Rattle.machine.specs.Least as count
 use Rattle.machine.specs.LeastLaws.{least-is}
-use Rattle.machine.specs.RoundLaws.{lent-there, kept-or-raised, closed-is, own-after, other-after}
+use Rattle.machine.specs.RoundLaws.{lent-there, kept-or-raised, closed-is, own-made, other-made}
 use Rattle.machine.specs.Turn.{sharedOf, effectOf, outcomeOf, movedTo, answerOf, turnOf, moveNumber}
 use Rattle.machine.specs.TurnLaws.{effect-rule, stored, turn-made, turn-refused, turn-constants}
 use Rattle.machine.specs.KeepLaws.{turn-valid, looked-known, place-known}
@@ -326,9 +326,9 @@ module _ {s : State} {schedule log₀ : List ℕ} {i : ℕ} {state : State} {hel
           at q h (yes same) =
               rw same
               (getD-set-same (held .counts) p (e .task .count) 0 count-there ∙ ap (λ (x : Effect). x .task .count) does
-              ∙ sym (own-after state p (g .valid) known how answer))
+              ∙ sym (own-made state p (g .valid) known how answer))
           at q h (no ne) =
-              getD-set-other (held .counts) p q (e .task .count) 0 ne ∙ g .mirrors .at q h ∙ sym (other-after state p (g .valid) known how answer q ne)
+              getD-set-other (held .counts) p q (e .task .count) 0 ne ∙ g .mirrors .at q h ∙ sym (other-made state p (g .valid) known how answer q ne)
 
       pub goes-on : (byte : ℕ) (state′ : State) (moves′ waits′ counts′ : List ℕ) (least′ : Least) (tail : List ℕ) → byte ≡ moveNumber how → 2 * i + 2 ≤ length log₀
           → state′ ≡ stored state p e

@@ -230,7 +230,7 @@ element-copy-out-seen : tie.Need-element-copy-out-seen Inv-loop μ-loop
 element-copy-out-seen c = seen-there (looking c)
 
 sub-report : tie.Need-sub-report Inv-loop μ-loop
-sub-report c = no-less (turn (acted (refused (c .before))) .before)
+sub-report c = omega (arith, no-less (turn (acted (refused (c .before))) .before))
 
 same-length : tie.Need-same-length Inv-loop μ-loop
 same-length c = counts-long (turn (acted (refused (c .before .before))) .before)
@@ -320,7 +320,7 @@ loop-again c =
     (omega (arith, t .loop-test .taken), on)
 
 sub-report-2 : tie.Need-sub-report-2 Inv-loop μ-loop
-sub-report-2 c = no-less (c .before .before)
+sub-report-2 c = omega (arith, no-less (c .before .before))
 
 same-length-3 : tie.Need-same-length-3 Inv-loop μ-loop
 same-length-3 c = counts-long (c .before .before .before)
