@@ -1,7 +1,7 @@
 //! Holds every exported function to the second program: the answer, the lent number, and every byte of the lent buffers and around them.
 //!
 //! A state that a fresh state and 65,536 turns lead to is in range, and its counts are far below 1,000,000. So no function here answers
-//! 7 or 11, and somebody can always move.
+//! 7, 11 or 13, and somebody can always move.
 
 mod calls;
 mod cases;

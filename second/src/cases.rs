@@ -14,6 +14,7 @@ pub mod scenes;
 mod starts;
 mod steps;
 mod table;
+mod tallies;
 mod trees;
 mod values;
 
@@ -47,6 +48,7 @@ fn stored() -> Recorder {
     ranges::cases(&mut recorder);
     starts::cases(&mut recorder);
     rounds::cases(&mut recorder);
+    tallies::cases(&mut recorder);
     trees::cases(&mut recorder);
     malformed::cases(&mut recorder);
     long::cases(&mut recorder, &mut random);

@@ -12,12 +12,18 @@ pub const TREE: u8 = 3;
 /// The highest count.
 pub const MAX_COUNT: u32 = 1_000_000;
 
+/// The highest tally.
+pub const MAX_TALLY: u32 = 4_000_000_000;
+
 /// The fields of one task. Those that its kind doesn't use are 0.
 #[derive(Clone, Copy, Debug, PartialEq, Eq)]
 pub struct Task {
     /// Symmetric and tree: the tasks still to be dealt with, one bit each.
     pub list: u64,
     pub count: u32,
+    /// The tallies: how many of the task's turns since the fresh state moved, and how many waited.
+    pub moves: u32,
+    pub waits: u32,
     pub line: u8,
     /// Symmetric: what the others read, and its value before the round.
     pub tag: u8,
@@ -38,6 +44,8 @@ impl Task {
     pub const ZERO: Task = Task {
         list: 0,
         count: 0,
+        moves: 0,
+        waits: 0,
         line: 0,
         tag: 0,
         old: 0,
@@ -170,7 +178,7 @@ fn starts_fit(kind: u8, n: usize, starts: &[u8]) -> bool {
 
 // ---- turn ----
 
-/// A turn: checks 7, 9 and 11, then carries out the task's line or waits at it.
+/// A turn: checks 7, 9, 11 and 13, then carries out the task's line or waits at it.
 pub fn turn(state: &mut State, task: u64) -> Result<Outcome, Refusal> {
     if !in_range(state) {
         return Err(Refusal::Range);
@@ -187,7 +195,9 @@ pub fn step(state: &mut State, task: usize) -> Result<Outcome, Refusal> {
 }
 
 /// The same. Only where the task's count rises, it asks whether the least count rose with it; the
-/// question gets the state after the turn and the count that the task has now.
+/// question gets the state after the turn and the count that the task has now. Always inlined: the
+/// run's loop is faster with it.
+#[inline(always)]
 fn step_with(
     state: &mut State,
     task: usize,
@@ -195,8 +205,10 @@ fn step_with(
 ) -> Result<Outcome, Refusal> {
     check_step(state, task)?;
     if must_wait(state, task) {
+        tally(&mut state.tasks[task].waits)?;
         return Ok(Outcome::Waited);
     }
+    tally(&mut state.tasks[task].moves)?;
     let before = state.tasks[task].count;
     match state.kind {
         SYMMETRIC => symmetric(state, task),
@@ -220,6 +232,15 @@ fn check_step(state: &State, task: usize) -> Result<(), Refusal> {
     if own.count == MAX_COUNT {
         return Err(Refusal::CountLimit);
     }
+    Ok(())
+}
+
+/// Check 13, then raises the tally by one.
+fn tally(tally: &mut u32) -> Result<(), Refusal> {
+    if *tally == MAX_TALLY {
+        return Err(Refusal::TallyLimit);
+    }
+    *tally += 1;
     Ok(())
 }
 
@@ -500,6 +521,8 @@ fn shared_in_range(state: &State) -> bool {
 fn highest_fields(state: &State) -> Task {
     let mut highest = Task::ZERO;
     highest.count = MAX_COUNT;
+    highest.moves = MAX_TALLY;
+    highest.waits = MAX_TALLY;
     match state.kind {
         SYMMETRIC => {
             highest.line = 14;
@@ -544,6 +567,8 @@ fn highest_lists(state: &State) -> [u64; MAX_TASKS] {
 fn task_in_range(task: &Task, highest: &Task, list: u64) -> bool {
     (11..=highest.line).contains(&task.line)
         && task.count <= highest.count
+        && task.moves <= highest.moves
+        && task.waits <= highest.waits
         && task.tag <= highest.tag
         && task.old <= highest.old
         && task.looked <= highest.looked
@@ -561,8 +586,13 @@ pub fn ready(state: &State) -> Result<Option<usize>, Refusal> {
     if !in_range(state) {
         return Err(Refusal::Range);
     }
-    let moves = |task: &usize| check_step(state, *task).is_ok() && !must_wait(state, *task);
-    Ok((0..usize::from(state.n)).find(moves))
+    Ok((0..usize::from(state.n)).find(|&task| would_move(state, task)))
+}
+
+/// Whether the turn of one of the tasks of a state that is in range would answer moved.
+fn would_move(state: &State, task: usize) -> bool {
+    let tallied = state.tasks[task].moves < MAX_TALLY;
+    tallied && check_step(state, task).is_ok() && !must_wait(state, task)
 }
 
 // ---- run ----
@@ -574,7 +604,7 @@ pub enum Ending {
     Done,
     /// The allowance is used up and the schedule is longer.
     Spent,
-    /// A turn was refused, 7 or 11; the turns before it stand.
+    /// A turn was refused, 7, 11 or 13; the turns before it stand.
     Stopped(Refusal),
     /// The whole run was refused.
     Refused(Refusal),
@@ -597,21 +627,24 @@ impl Report {
         Report { ending, turns: 0, rounds: 0, moves: [0; MAX_TASKS], waits: [0; MAX_TASKS] }
     }
 
-    /// Counts one turn of a task.
-    fn count(&mut self, task: usize, outcome: Outcome) {
+    /// Counts one turn.
+    fn count(&mut self, outcome: Outcome) {
         self.turns += 1;
-        match outcome {
-            Outcome::Moved { closed } => {
-                self.moves[task] += 1;
-                self.rounds += usize::from(closed);
-            }
-            Outcome::Waited => self.waits[task] += 1,
+        self.rounds += usize::from(outcome == Outcome::Moved { closed: true });
+    }
+
+    /// Takes each task's moves and waits from its tallies before and after the run.
+    fn count_tallies(&mut self, before: &[Task], after: &[Task]) {
+        for (number, (before, after)) in before.iter().zip(after).enumerate() {
+            self.moves[number] = after.moves - before.moves;
+            self.waits[number] = after.waits - before.waits;
         }
     }
 }
 
 /// A run: makes the schedule's turns as far as the allowance goes and logs two bytes for each. It
-/// goes over the counts at its beginning and where it closes a round, not at every turn.
+/// goes over the counts at its beginning and where it closes a round, and over the tallies at its
+/// end, not at every turn.
 pub fn run(state: &mut State, schedule: &[u8], allowance: u64, log: &mut [u8]) -> Report {
     let limit = match check_run(state, schedule, allowance, log) {
         Ok(limit) => limit,
@@ -620,13 +653,14 @@ pub fn run(state: &mut State, schedule: &[u8], allowance: u64, log: &mut [u8]) -
     let whole = limit == schedule.len();
     let mut report = Report::new(if whole { Ending::Done } else { Ending::Spent });
     let mut least = Least::new(state);
+    let before = state.tasks;
     for (&task, entry) in schedule[..limit].iter().zip(log.chunks_exact_mut(2)) {
         let task = usize::from(task);
         let line = state.tasks[task].line;
         match step_with(state, task, |state, count| least.rise(state, count)) {
             Ok(outcome) => {
                 entry.copy_from_slice(&[line, u8::from(outcome != Outcome::Waited)]);
-                report.count(task, outcome);
+                report.count(outcome);
             }
             Err(refusal) => {
                 report.ending = Ending::Stopped(refusal);
@@ -634,6 +668,7 @@ pub fn run(state: &mut State, schedule: &[u8], allowance: u64, log: &mut [u8]) -
             }
         }
     }
+    report.count_tallies(&before, &state.tasks);
     report
 }
 

@@ -37,6 +37,8 @@ pub enum Refusal {
     CountLimit,
     /// 12: the start table's length doesn't fit the kind, or an entry is no task.
     Starts,
+    /// 13: the turn would raise a tally that is at its limit.
+    TallyLimit,
 }
 
 impl Refusal {
@@ -55,6 +57,7 @@ impl Refusal {
             Refusal::Buffer => 10,
             Refusal::CountLimit => 11,
             Refusal::Starts => 12,
+            Refusal::TallyLimit => 13,
         }
     }
 }

@@ -19,7 +19,7 @@ const MAX_LIST: u64 = 131_072;
 const MAX_TABLE: u64 = 4_096;
 
 /// The numbers of a task's fields in request 6. Request 5 shows them in this order.
-pub const TASK_FIELDS: [u64; 10] = [0, 1, 2, 3, 4, 5, 6, 7, 8, 15];
+pub const TASK_FIELDS: [u64; 12] = [0, 1, 2, 3, 4, 5, 6, 7, 8, 15, 16, 17];
 
 /// The answer to a line that is no request.
 const BAD_LINE: &str = "bad line";
@@ -137,7 +137,7 @@ impl Replay {
     fn change(&mut self, field: u64, task: u64, value: u64) -> Option<String> {
         let task = usize::try_from(task).ok()?;
         match field {
-            0..=8 | 15 => change_task(self.state.tasks.get_mut(task)?, field, value)?,
+            0..=8 | 15..=17 => change_task(self.state.tasks.get_mut(task)?, field, value)?,
             9..=13 if task == 0 => *shared_field(&mut self.state, field) = byte(value)?,
             14 => *self.state.parents.get_mut(task)? = byte(value)?,
             _ => return None,
@@ -159,16 +159,18 @@ fn task_fields(task: &Task) -> [u64; TASK_FIELDS.len()] {
         task.toggle.into(),
         task.flag.into(),
         task.start.into(),
+        task.moves.into(),
+        task.waits.into(),
     ]
 }
 
-/// The value of a field by its number in request 6.
+/// The value of a field by its number in request 6. Fields 9 to 14 are no task's.
 pub fn field_value(state: &State, field: u64, task: usize) -> u64 {
     match field {
         0..=8 => task_fields(&state.tasks[task])[field as usize],
         9..=13 => shared_fields(state)[field as usize - 9].into(),
         14 => state.parents[task].into(),
-        _ => state.tasks[task].start.into(),
+        _ => task_fields(&state.tasks[task])[field as usize - 6],
     }
 }
 
@@ -181,7 +183,7 @@ fn shared_fields(state: &State) -> [u8; 5] {
 fn change_task(task: &mut Task, field: u64, value: u64) -> Option<()> {
     match field {
         0 => task.line = byte(value)?,
-        1 => task.count = u32::try_from(value).ok()?,
+        1 => task.count = word(value)?,
         2 => task.tag = byte(value)?,
         3 => task.old = byte(value)?,
         4 => task.list = value,
@@ -189,7 +191,9 @@ fn change_task(task: &mut Task, field: u64, value: u64) -> Option<()> {
         6 => task.aim = byte(value)?,
         7 => task.toggle = byte(value)?,
         8 => task.flag = byte(value)?,
-        _ => task.start = byte(value)?,
+        15 => task.start = byte(value)?,
+        16 => task.moves = word(value)?,
+        _ => task.waits = word(value)?,
     }
     Some(())
 }
@@ -280,6 +284,11 @@ fn number(digits: &[u8]) -> Option<u64> {
 /// The number as a byte, if it fits.
 fn byte(number: u64) -> Option<u8> {
     u8::try_from(number).ok()
+}
+
+/// The number as 32 bits, if it fits.
+fn word(number: u64) -> Option<u32> {
+    u32::try_from(number).ok()
 }
 
 /// The numbers as bytes, if they fit and aren't too many.

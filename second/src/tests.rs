@@ -1,5 +1,5 @@
-//! Tests: the scope's cases and traps, the refusals, starts, rounds, all reachable states of small
-//! barriers, and the texts of the sheet and the replay.
+//! Tests: the scope's cases and traps, the refusals, starts, rounds, tallies, all reachable states
+//! of small barriers, and the texts of the sheet and the replay.
 
 mod calls;
 mod reach;
@@ -8,6 +8,7 @@ mod rounds;
 mod sheets;
 mod starts;
 mod table;
+mod tallies;
 mod texts;
 mod traps;
 

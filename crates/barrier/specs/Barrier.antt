@@ -12,13 +12,17 @@ use Rattle.machine.specs.declared.State.{State}
 use Rattle.machine.specs.Setters.{taskAt}
 use Rattle.machine.specs.Fresh.{Inputs, freshReason, freshState}
 use Rattle.machine.specs.Range.{Valid, tableOf}
-use Rattle.machine.specs.Turn.{effectOf, turnOf}
+use Rattle.machine.specs.Turn.{effectOf, movedTo}
 use Rattle.machine.specs.Least.{least}
 use Rattle.barrier.specs.View.{View, viewOf}
 
 -- a known task whose line can move
 abbrev pub Able : State → ℕ → Type 0
 Able s p = (p < s .n) × (effectOf s p .act ≡ Moves)
+
+-- what a move of p writes: its own task and its word. A turn that moves leaves this, with its tally.
+abbrev pub moved : State → ℕ → State
+moved s p = movedTo s p (effectOf s p .task) (effectOf s p .write)
 
 -- a state in range, of this kind, whose view has the invariant
 pub record Holds (of : ℕ) (Inv : View → Type 0) (s : State) : Type 0 where
@@ -30,7 +34,7 @@ pub record Barrier (kind : ℕ) : Type 1 where
   -- the invariant: a fresh state has it, and every move keeps it
   pub Inv : View → Type 0
   pub fresh : (i : Inputs) → freshReason i ≡ 0 → i .kind ≡ kind → Inv (viewOf (freshState i))
-  pub keeps : (s : State) (p : ℕ) → Holds kind Inv s → Able s p → Inv (viewOf (turnOf s p .state))
+  pub keeps : (s : State) (p : ℕ) → Holds kind Inv s → Able s p → Inv (viewOf (moved s p))
   -- no two counts differ by more than one
   pub close : (s : State) → Holds kind Inv s → (q r : ℕ) → q < s .n → r < s .n → taskAt s q .count ≤ taskAt s r .count + 1
   -- a task at its own work is never ahead

@@ -9,38 +9,37 @@ use Rattle.machine.specs.declared.State.{State}
 use Rattle.machine.specs.declared.Move.the-variants.{Moved, Waited}
 use Rattle.machine.specs.declared.Outcome.{Outcome}
 use Rattle.machine.specs.declared.Outcome.the-variants.{Made, Refused}
-use Rattle.machine.specs.Setters.{taskAt, withTask}
+use Rattle.machine.specs.Setters.{taskAt}
 use Rattle.machine.specs.Range.{Valid}
-use Rattle.machine.specs.Turn.{effectOf, written, turnOf}
-use Rattle.machine.specs.TurnLaws.{effect-rule, moved-acts, refused-still, waited-still, turn-moved, turn-constants, own-field, other-field}
+use Rattle.machine.specs.Turn.{effectOf, turnOf}
+use Rattle.machine.specs.TurnLaws.{effect-rule, turn-makes, refused-still, waited-tallied, moved-tallied, turn-constants, own-field, other-field}
 use Rattle.machine.specs.RangeLaws.{range, present}
 use Rattle.machine.specs.KeepLaws.{turn-valid}
 use Rattle.barrier.specs.View.{View, viewOf, effectAt}
-use Rattle.barrier.specs.Barrier.{Able, Holds, Barrier}
+use Rattle.barrier.specs.Barrier.{Able, moved, Holds, Barrier}
 
--- what is shown of the view after a turn that moves, and of the view before, is shown of the view after every turn
-pub by-move {ℓ} : (P : View → Type ℓ) (s : State) (p : ℕ) → P (viewOf s) → (Able s p → P (viewOf (turnOf s p .state))) → P (viewOf (turnOf s p .state))
-by-move P s p same moved = go (turnOf s p .outcome) refl
+-- a turn that is answered moved is one of an able task
+pub moved-able : (s : State) (p c : ℕ) → turnOf s p .outcome ≡ Made (Moved c) → Able s p
+moved-able s p c e = let m = turn-makes s p (Moved c) e in (m .known, m .act)
+
+-- what is shown of the view that a move leaves, and of the view before, is shown of the view after every turn: the view has no tallies
+pub by-move {ℓ} : (P : View → Type ℓ) (s : State) (p : ℕ) → P (viewOf s) → ((c : ℕ) → turnOf s p .outcome ≡ Made (Moved c) → P (viewOf (moved s p)))
+    → P (viewOf (turnOf s p .state))
+by-move P s p same moves = go (turnOf s p .outcome) refl
   where
     go : (o : Outcome) → turnOf s p .outcome ≡ o → P (viewOf (turnOf s p .state))
-    go (Made (Moved c)) e = moved (moved-acts s p c e)
-    go (Made Waited) e = subst (λ (x : State). P (viewOf x)) (sym (waited-still s p e)) same
+    go (Made (Moved c)) e = subst (λ (x : State). P (viewOf x)) (sym (moved-tallied s p c e)) (moves c e)
+    go (Made Waited) e = subst (λ (x : State). P (viewOf x)) (sym (waited-tallied s p e)) same
     go (Refused k) e = subst (λ (x : State). P (viewOf x)) (sym (refused-still s p k e)) same
-
--- a move stores its own task, and then writes its word
-pub moved-state : (s : State) (p : ℕ) → Valid s → Able s p → turnOf s p .state ≡ written (effectOf s p .write) (withTask s p (effectOf s p .task))
-moved-state s p ok able = turn-moved s p ok (able .0) (able .1)
 
 -- after a move the own task is the effect's, and every other as it was, but for toggles and flags, which a move of another task may write
 module _ {A : Type 0} (f : Task → A) (apart : (t : Task) (x : ℕ) → (f (withToggle t x) ≡ f t) × (f (withFlag t x) ≡ f t))
     (s : State) (p : ℕ) (ok : Valid s) (able : Able s p) where
-  pub own-after : f (taskAt (turnOf s p .state) p) ≡ f (effectOf s p .task)
-  own-after =
-      rw (moved-state s p ok able)
-      (own-field f apart (effectOf s p .write) s p (effectOf s p .task) (present s p (range s ok .tasks p (able .0) .line-from)))
+  pub own-after : f (taskAt (moved s p) p) ≡ f (effectOf s p .task)
+  own-after = own-field f apart (effectOf s p .write) s p (effectOf s p .task) (present s p (range s ok .tasks p (able .0) .line-from))
 
-  pub other-after : (q : ℕ) → q ≢ p → f (taskAt (turnOf s p .state) q) ≡ f (taskAt s q)
-  other-after q ne = rw (moved-state s p ok able) (other-field f apart (effectOf s p .write) s p q (effectOf s p .task) ne)
+  pub other-after : (q : ℕ) → q ≢ p → f (taskAt (moved s p) q) ≡ f (taskAt s q)
+  other-after q ne = other-field f apart (effectOf s p .write) s p q (effectOf s p .task) ne
 
 -- who can move is told by the kind and the view
 pub able-view : (s s′ : State) (q : ℕ) → s′ .kind ≡ s .kind → viewOf s′ ≡ viewOf s → Able s q → Able s′ q
@@ -56,5 +55,5 @@ keeps-all b s p i =
     record {
       valid = turn-valid s p (i .valid);
       kind = turn-constants s p .kind ∙ i .kind;
-      inv = by-move (b .Inv) s p (i .inv) (b .keeps s p i);
+      inv = by-move (b .Inv) s p (i .inv) (λ c e. b .keeps s p i (moved-able s p c e));
     }

@@ -29,7 +29,7 @@ unfoldable pub afterAll : State → List Call → State
 afterAll s [] = s
 afterAll s (c ∷ cs) = afterAll (after s c) cs
 
--- "A list's counted turns are, in order, the task of each single turn answered moved, waited or 11,
+-- "A list's counted turns are, in order, the task of each single turn answered moved, waited or 11, (02, P3: "a turn refused 13 isn't counted")
 abbrev pub countedTurn : ℕ → Outcome → List ℕ
 countedTurn p (Made m) = p ∷ []
 countedTurn p (Refused k) = pick (eqb k 11) (p ∷ []) []

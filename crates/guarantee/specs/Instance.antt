@@ -1,6 +1,7 @@
 -- The four barriers as instances of the counting argument, over single turns.
 use mathlib.Core.Path.{_≡_, refl, _∙_}
 use mathlib.Core.List.{List}
+use mathlib.Core.Logic.{_≢_, _⊎_, inl, inr}
 use Prim.Native.Nat.{ℕ, zero, suc, _+_, _*_, _≤_, _<_}
 use native.Mathlib.Nat.{le-refl}
 use native.Mathlib.Omega.{arith}
@@ -59,6 +60,11 @@ module _ {kind : ℕ} (b : Barrier kind) (n m : ℕ) where
   known : {p k : ℕ} → k ≡ n → p < k → p < n
   known e h = omega arith
 
+  -- 02, P3: "a turn refused 13 isn't counted"
+  not-13 : {r : ℕ} → (r ≡ 0) ⊎ (r ≡ 11) → r ≢ 13
+  not-13 (inl e) = omega arith
+  not-13 (inr e) = omega arith
+
   counting : Counting State n turned-to Counts
   counting =
       record {
@@ -69,7 +75,7 @@ module _ {kind : ℕ} (b : Barrier kind) (n m : ℕ) where
         Φ = Place.Φ b;
         Able = Able;
         keeps = fixed-turn;
-        moves = λ s p f a k. Place.raises b s p (f .inv) a;
+        moves = λ s p f a k. Place.raises b s p (f .inv) a (not-13 k);
         either = λ s p f. Place.either b s p (f .inv);
         rises = λ s p f. turn-least s p (range s (f .inv .valid) .some);
         near = λ s s′ f f′ l. Place.near b m s s′ (f .inv) (f′ .inv) (f .moves) (f′ .moves) l;

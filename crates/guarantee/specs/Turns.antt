@@ -60,6 +60,10 @@ leads-turn s p = go (turnOf s p .outcome) refl
         stopped true q = record { to = refl; counts = (inr (ap reasonNumber e ∙ eqb-true k 11 q), tt) }
         stopped false q = record { to = sym (refused-still s p k e); counts = tt }
 
+-- 02, P3: "In the progress rule a turn refused 13 isn't counted"; in a run it is not either (`stop-13` in runner)
+pub uncounted-13 : (p : ℕ) → countedTurn p (Refused 13) ≡ []
+uncounted-13 p = refl
+
 -- the turns of a trace
 leads-trace : (s : State) (ts : List ℕ) → Leads s (countedIn (traceOf s ts)) (traceOf s ts .state)
 leads-trace s [] = rw (trace-none s) (record { to = refl; counts = tt })

@@ -13,13 +13,12 @@ use Rattle.lines.specs.Increment.{negated}
 use Rattle.machine.specs.declared.State.{State}
 use Rattle.machine.specs.Setters.{taskAt, withTask}
 use Rattle.machine.specs.Fresh.{Inputs, freshReason, freshTask, freshState}
-use Rattle.machine.specs.Turn.{written, turnOf}
+use Rattle.machine.specs.Turn.{written}
 use Rattle.machine.specs.RangeLaws.{range, below}
 use Rattle.machine.specs.FreshLaws.{fresh-at, accepted-inputs}
 use Rattle.barrier.specs.Sum.{sum, sum-same, sum-const, sum-put, sum-full}
 use Rattle.barrier.specs.View.{viewOf}
-use Rattle.barrier.specs.Barrier.{Able, Holds}
-use Rattle.barrier.specs.Moves.{moved-state}
+use Rattle.barrier.specs.Barrier.{Able, moved, Holds}
 use Rattle.barrier.specs.Puts.{Puts, at-task, stored}
 use Rattle.increment.specs.Invariant.{Opposed, Arrived, Stage, outside, entering, leaving, guest, Gathering, Opening, Phase, gathering, full, cleared, Inv}
 use Rattle.increment.specs.Lines.{by-line}
@@ -149,17 +148,16 @@ module _ {n arrivals sense c p : ℕ} {t t′ : ℕ → Task} (phase : Phase n a
 
 -- ---- every move
 
-pub keeps : (s : State) (p : ℕ) → Holds 1 Inv s → Able s p → Inv (viewOf (turnOf s p .state))
+pub keeps : (s : State) (p : ℕ) → Holds 1 Inv s → Able s p → Inv (viewOf (moved s p))
 keeps s p i a =
-    rw (moved-state s p (i .valid) a)
-    (by-line (λ e. Inv (viewOf (written (e .write) (withTask s p (e .task))))) s p (i .kind) a
+    by-line (λ e. Inv (viewOf (written (e .write) (withTask s p (e .task))))) s p (i .kind) a
     (λ l. record { c = c; phase = line-11 phase h l puts })
     (λ l. record { c = c; phase = line-12 phase h l two puts })
     (λ l last. record { c = c; phase = line-13-butler phase h l last puts })
     (λ l more. record { c = c; phase = line-13-guest phase h l more puts })
     (λ l. record { c = c; phase = line-14 phase h l puts })
     (λ l. record { c = c + 1; phase = line-15 phase h l puts })
-    (λ l turned. record { c = c; phase = line-16 phase h l turned puts }))
+    (λ l turned. record { c = c; phase = line-16 phase h l turned puts })
   where
     h : p < s .n
     h = a .0

@@ -19,7 +19,7 @@ maxCount = 1000000
 abbrev pub moves : Task → Write → Effect
 moves t w = record { act = Moves; task = t; write = w }
 
--- "waited (its line is an await whose condition is false; nothing changes)"
+-- "waited (its line is an await whose condition is false; nothing changes)"; that it is tallied (02, P3) is the turn's doing, and no line's
 abbrev pub waits : Task → Effect
 waits t = record { act = Waits; task = t; write = Nothing }
 

@@ -1,4 +1,4 @@
--- Arrays: that a state's parents have 64 entries, and how a loop fills an array from the front.
+-- Arrays: that a state's parents and tallies have 64 entries, and how a loop fills an array from the front.
 use mathlib.Core.Path.{_≡_, sym, ap, _∙_}
 use mathlib.Core.List.{List, [], _∷_, _++_}
 use Prim.Native.Nat.{ℕ, suc, _+_, _-_, _≤_, _<_, min}
@@ -14,6 +14,13 @@ use Rattle.machine.proofs.State.{the-row}
 -- what owning a state tells of its parents' length
 pub parents-64 : (s : State) (vs : List Val) → Is the-row s vs → length (s .parents) ≡ 64
 parents-64 s vs good = sym (length-map (s .parents) _) ∙ good .1 .1 .1 .1 .1 .1 .1 .0 .1 .0 .1
+
+-- and of its tallies
+pub moves-64 : (s : State) (vs : List Val) → Is the-row s vs → length (s .moves) ≡ 64
+moves-64 s vs good = sym (length-map (s .moves) _) ∙ good .1 .1 .1 .1 .1 .1 .1 .1 .0 .1 .0 .1
+
+pub waits-64 : (s : State) (vs : List Val) → Is the-row s vs → length (s .waits) ≡ 64
+waits-64 s vs good = sym (length-map (s .waits) _) ∙ good .1 .1 .1 .1 .1 .1 .1 .1 .1 .0 .1 .0 .1
 
 -- at most the 64 entries are the table
 at-most : (f : ℕ → List ℕ) (n : ℕ) → (64 ≤ n → f 64 ≡ f n) → f (min n 64) ≡ f n

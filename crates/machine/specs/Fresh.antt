@@ -88,6 +88,7 @@ freshTasks n f = table n f ++ replicate (64 - n) zeroTask
 abbrev pub padded : List ℕ → List ℕ
 padded parents = parents ++ replicate (64 - length parents) 0
 
+-- 02, P3: both tallies are "fresh 0"
 abbrev pub freshState : Inputs → State
 freshState i =
     record {
@@ -97,6 +98,8 @@ freshState i =
       arrivals = 0;
       sense = freshSense (i .kind);
       parents = padded (i .parents);
+      moves = replicate 64 0;
+      waits = replicate 64 0;
       tasks = freshTasks (i .n) (freshTask i);
     }
 
@@ -110,6 +113,8 @@ zeroState =
       arrivals = 0;
       sense = 0;
       parents = replicate 64 0;
+      moves = replicate 64 0;
+      waits = replicate 64 0;
       tasks = replicate 64 zeroTask;
     }
 

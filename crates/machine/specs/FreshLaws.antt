@@ -17,10 +17,11 @@ use Rattle.parents.specs.Parents.{checkOf}
 use Rattle.parents.specs.ParentsLaws.{accepted}
 use Rattle.lines.specs.declared.Task.{Task}
 use Rattle.lines.specs.Setters.{zeroTask}
+use Rattle.machine.specs.Setters.{movesAt, waitsAt}
 use Rattle.machine.specs.Fresh.{Inputs, withParents, isKind, modulusOk, parentsReason, allBelow, startsReason, firstReason, freshReason, startOf, freshTask, freshTasks, padded, freshState, freshOf}
 use Rattle.machine.specs.Range.{tableOf, fieldOk, listRoom, allZero, parentsOk, taskZero, Valid}
 use Rattle.bitset.specs.ChoiceLaws.{by-test}
-use Rattle.machine.specs.RangeLaws.{TaskRange, valid, line-14, used, modulus-3}
+use Rattle.machine.specs.RangeLaws.{TaskRange, Tallies, valid, line-14, used, modulus-3}
 
 -- what an accepted fresh state is made from
 pub record Accepted (i : Inputs) : Type 0 where
@@ -160,6 +161,23 @@ fresh-parents i a =
         none [] e = all-zeros 64
         none (x ∷ ps) e = absurd (omega arith)
 
+-- tallies that are all 0
+zeros-at : (n q : ℕ) → getD {A = ℕ} (replicate n 0) q 0 ≡ 0
+zeros-at zero q = refl
+zeros-at (suc n) zero = refl
+zeros-at (suc n) (suc q) = zeros-at n q
+
+fresh-tallies : (n : ℕ) → Tallies n (replicate 64 0)
+fresh-tallies n =
+    record {
+      long = refl;
+      each = λ q h. rw (zeros-at 64 q) (by-test (λ b. b ≡ true) (ltb q n) (λ _. refl) (λ _. refl));
+    }
+
+-- 02, P3: both tallies are "fresh 0"
+pub fresh-tally : (i : Inputs) (q : ℕ) → (movesAt (freshState i) q ≡ 0) × (waitsAt (freshState i) q ≡ 0)
+fresh-tally i q = (zeros-at 64 q, zeros-at 64 q)
+
 -- 01: "A fresh state is in range"
 pub fresh-valid : (i : Inputs) → freshReason i ≡ 0 → Valid (freshState i)
 unfolding taskZero
@@ -176,6 +194,8 @@ fresh-valid i e =
       parents = fresh-parents i a;
       tasks = λ q h. subst (TaskRange (freshState i) q) (sym (fresh-at (i .n) q (freshTask i) h)) (fresh-range i q a);
       rest = λ q m l. rw (zero-at (i .n) q (freshTask i) m l);
+      moves = fresh-tallies (i .n);
+      waits = fresh-tallies (i .n);
     })
 
 -- what a call answers besides the state

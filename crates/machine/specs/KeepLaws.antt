@@ -1,15 +1,16 @@
 -- Every turn keeps a state in range (01: "every turn keeps a state in range").
-use mathlib.Core.Path.{_≡_, sym, _∙_, subst}
+use mathlib.Core.Path.{_≡_, refl, sym, _∙_, subst}
 use mathlib.Core.Bool.{Bool, true, _||_, not}
 use mathlib.Core.List.{List}
 use mathlib.Core.Logic.{_≢_}
 use Prim.Native.Nat.{ℕ, _+_, _^_, _≤_, _<_}
 use native.Mathlib.Nat.{lt-of-not-le, mod-lt}
-use native.Mathlib.Decide.{ℕ-discrete}
+use native.Mathlib.Decide.{ℕ-discrete, decLt}
 use native.Mathlib.Omega.{arith}
 use lib.Dec.{eqb, leb, ltb}
-use lib.ListN.{length, length-take}
-use borrow.Author.Tests.{ne-eqb, le-ltb, ltb-true, leb-false, eqb-true, eqb-false}
+use lib.ListN.{length, getD, length-take, length-set}
+use lib.Seq.{getD-set-same, getD-set-other, set-out}
+use borrow.Author.Tests.{ne-eqb, lt-ltb, le-ltb, le-leb, ltb-true, leb-false, eqb-true, eqb-false}
 use Rattle.bitset.specs.Choice.{pick}
 use Rattle.bitset.specs.ChoiceLaws.{by-test}
 use Rattle.bitset.specs.Set.{bit, withinOf, allOf, leastOf, firstOf, withoutOf}
@@ -18,14 +19,19 @@ use Rattle.parents.specs.Parents.{childrenOf}
 use Rattle.parents.specs.ParentsLaws.{children-bit, children-lt}
 use Rattle.lines.specs.declared.Task.{Task}
 use Rattle.machine.specs.declared.State.{State}
+use Rattle.machine.specs.declared.Move.{Move}
+use Rattle.machine.specs.declared.Move.the-variants.{Moved, Waited}
+use Rattle.machine.specs.declared.Outcome.{Outcome}
+use Rattle.machine.specs.declared.Outcome.the-variants.{Made, Refused}
 use Rattle.lines.specs.declared.Effect.{Effect}
 use Rattle.lines.specs.declared.Act.{Act}
 use Rattle.lines.specs.declared.Act.the-variants.{Moves, Waits, Refuses}
 use Rattle.lines.specs.declared.Write.{Write}
 use Rattle.lines.specs.declared.Write.the-variants.{Nothing, Arrivals, Sense, Toggle, Flag}
 use Rattle.lines.specs.Setters.{withLine, withTag, withOld, withList, withToggle, withFlag}
-use Rattle.machine.specs.Setters.{taskAt, withTask, withTasks, withArrivals, withSense}
-use Rattle.machine.specs.Range.{tableOf, lastLine, fieldOk, listRoom, taskZero, Valid}
+use Rattle.machine.specs.Setters.{taskAt, withTask, withTasks, withArrivals, withSense, withMoves, withWaits}
+use Rattle.machine.specs.Tally.{maxTally, tallied}
+use Rattle.machine.specs.Range.{tableOf, lastLine, fieldOk, listRoom, taskZero, tallyOk, Valid}
 use Rattle.lines.specs.Common.{maxCount, moves, awaits, work, raised, counts, choose, takeOff}
 use Rattle.lines.specs.Symmetric.{nextTag, symmetricLine}
 use Rattle.lines.specs.Increment.{negated, incrementLine}
@@ -33,9 +39,9 @@ use Rattle.lines.specs.Ring.{nz, nextTask, ringLine}
 use Rattle.lines.specs.Tree.{treeLine}
 use Rattle.lines.specs.Words.{placeOf}
 use Rattle.lines.specs.LineLaws.{by-kind, by-symmetric, by-increment, by-ring, by-tree, Does, keeps, raises, stays, refused-7, refused-11}
-use Rattle.machine.specs.Turn.{sharedOf, effectOf, outcomeOf, written, applied, stepOf, turnOf}
-use Rattle.machine.specs.TurnLaws.{by-turn, effect-does, step-state, put-same, put-other}
-use Rattle.machine.specs.RangeLaws.{TaskRange, InRange, range, valid, present, line-14, used, modulus-3}
+use Rattle.machine.specs.Turn.{sharedOf, effectOf, written, movedTo, applied, turnOf}
+use Rattle.machine.specs.TurnLaws.{effect-does, Makes, turn-makes, turn-applied, written-moves, moved-n, put-same, put-other}
+use Rattle.machine.specs.RangeLaws.{TaskRange, Tallies, InRange, range, valid, present, line-14, used, modulus-3}
 
 -- ---- storing keeps the range
 
@@ -55,6 +61,8 @@ keep-task s p t r h tr =
       parents = r .parents;
       tasks = λ q l. re-tasks s q (taskAt (withTask s p t) q) _ (at q l (ℕ-discrete q p));
       rest = λ q m l. subst (λ (x : Task). taskZero x ≡ true) (sym (put-other s p q t (omega arith))) (r .rest q m l);
+      moves = r .moves;
+      waits = r .waits;
     }
   where
     at : (q : ℕ) → q < s .n → Dec (q ≡ p) → TaskRange s q (taskAt (withTask s p t) q)
@@ -96,6 +104,8 @@ keep-written (Arrivals x) s r ok =
       parents = r .parents;
       tasks = λ q l. re-arrivals s q (taskAt s q) x (r .tasks q l);
       rest = r .rest;
+      moves = r .moves;
+      waits = r .waits;
     }
 keep-written (Sense x) s r ok =
     record {
@@ -108,6 +118,8 @@ keep-written (Sense x) s r ok =
       parents = r .parents;
       tasks = λ q l. re-sense s q (taskAt s q) x (r .tasks q l);
       rest = r .rest;
+      moves = r .moves;
+      waits = r .waits;
     }
 keep-written (Toggle q x) s r ok = keep-task s q _ r (ok .0) (re-toggle s q (taskAt s q) x (r .tasks q (ok .0)) (ok .1))
 keep-written (Flag q x) s r ok = keep-task s q _ r (ok .0) (re-flag s q (taskAt s q) x (r .tasks q (ok .0)) (ok .1))
@@ -284,16 +296,77 @@ keep-moved s p t w r h tr ok = keep-written w (withTask s p t) (keep-task s p t 
     write-ok (Toggle q x) ok = ok
     write-ok (Flag q x) ok = ok
 
-keep-applied : (a : Act) (closed : ℕ) (s : State) (p : ℕ) (t : Task) (w : Write) → InRange s → p < s .n → Good s p a t w
-    → InRange (applied (outcomeOf a closed) s p t w)
-keep-applied Moves closed s p t w r h g = keep-moved s p t w r h (g .0) (g .1)
-keep-applied Waits closed s p t w r h g = r
-keep-applied (Refuses k) closed s p t w r h g = r
+-- a tally below its limit may rise by one
+more-tallied : (n p : ℕ) (l : List ℕ) → Tallies n l → p < n → getD l p 0 < maxTally → Tallies n (tallied l p 1)
+more-tallied n p l r h room =
+    record {
+      long = length-set l p (getD l p 0 + 1) ∙ r .long;
+      each = λ q k. at q k (ℕ-discrete q p) (decLt p (length l));
+    }
+  where
+    at : (q : ℕ) → q < 64 → Dec (q ≡ p) → Dec (p < length l) → tallyOk n q (getD (tallied l p 1) q 0) ≡ true
+    at q k (yes e) (yes there) = rw (e, getD-set-same l p (getD l p 0 + 1) 0 there, lt-ltb p n h) (le-leb (getD l p 0 + 1) maxTally (omega arith))
+    at q k (yes e) (no past) = rw (set-out l p (getD l p 0 + 1) (omega arith)) (r .each q k)
+    at q k (no ne) there = rw (getD-set-other l p q (getD l p 0 + 1) 0 ne) (r .each q k)
+
+-- the range of a task speaks of no tally
+re-moves : (s : State) (q : ℕ) (t : Task) (x : List ℕ) → TaskRange s q t → TaskRange (withMoves s x) q t
+re-moves s q t x r = search
+
+re-waits : (s : State) (q : ℕ) (t : Task) (x : List ℕ) → TaskRange s q t → TaskRange (withWaits s x) q t
+re-waits s q t x r = search
+
+keep-moves : (s : State) (x : List ℕ) → InRange s → Tallies (s .n) x → InRange (withMoves s x)
+keep-moves s x r ok =
+    record {
+      kind = r .kind;
+      some = r .some;
+      few = r .few;
+      modulus = r .modulus;
+      arrivals = r .arrivals;
+      sense = r .sense;
+      parents = r .parents;
+      tasks = λ q l. re-moves s q (taskAt s q) x (r .tasks q l);
+      rest = r .rest;
+      moves = ok;
+      waits = r .waits;
+    }
+
+keep-waits : (s : State) (x : List ℕ) → InRange s → Tallies (s .n) x → InRange (withWaits s x)
+keep-waits s x r ok =
+    record {
+      kind = r .kind;
+      some = r .some;
+      few = r .few;
+      modulus = r .modulus;
+      arrivals = r .arrivals;
+      sense = r .sense;
+      parents = r .parents;
+      tasks = λ q l. re-waits s q (taskAt s q) x (r .tasks q l);
+      rest = r .rest;
+      moves = r .moves;
+      waits = ok;
+    }
+
+-- what a turn that is made leaves
+keep-made : (s : State) (p : ℕ) (how : Move) → Makes s p how → InRange (applied (Made how) s p (effectOf s p .task) (effectOf s p .write))
+keep-made s p (Moved c) m =
+    let r = range s (m .valid) in
+    let g : Good s p Moves (effectOf s p .task) (effectOf s p .write) = rw (m .act) at (good-effect s p r (m .known)) in
+    let x = keep-moved s p (effectOf s p .task) (effectOf s p .write) r (m .known) (g .0) (g .1) in
+    keep-moves (movedTo s p (effectOf s p .task) (effectOf s p .write)) _ x
+    (more-tallied _ p _ (x .moves) (rw (moved-n s p (effectOf s p .task) (effectOf s p .write)) (m .known))
+    (rw (written-moves (effectOf s p .write) s p (effectOf s p .task)) (m .room)))
+keep-made s p Waited m =
+    let r = range s (m .valid) in
+    keep-waits s _ r (more-tallied (s .n) p (s .waits) (r .waits) (m .known) (m .room))
 
 pub turn-valid : (s : State) (p : ℕ) → Valid s → Valid (turnOf s p .state)
-turn-valid s p ok =
-    by-turn (λ r. Valid (r .state)) s p (λ k. ok)
-    (λ ok h. valid (stepOf s p .state) (subst InRange (sym (step-state s p)) (keep-applied (effectOf s p .act) _ s p (effectOf s p .task) (effectOf s p .write) (range s ok) h (good-effect s p (range s ok) h))))
+turn-valid s p ok = rw (turn-applied s p) (go (turnOf s p .outcome) refl)
+  where
+    go : (o : Outcome) → turnOf s p .outcome ≡ o → Valid (applied o s p (effectOf s p .task) (effectOf s p .write))
+    go (Made how) e = valid (applied (Made how) s p (effectOf s p .task) (effectOf s p .write)) (keep-made s p how (turn-makes s p how e))
+    go (Refused k) e = ok
 
 -- ---- the places that a turn reads and writes are tasks
 

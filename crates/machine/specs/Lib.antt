@@ -1,5 +1,6 @@
 -- The definitions of the machine, in the order of document 01; then their laws.
 pub mod Setters
+pub mod Tally
 pub mod Fresh
 pub mod Range
 pub mod Least
@@ -11,5 +12,6 @@ pub mod KeepLaws
 pub mod LeastLaws
 pub mod FreshLaws
 pub mod CountLaws
+pub mod TallyLaws
 pub mod RoundLaws
 pub mod ReadyLaws

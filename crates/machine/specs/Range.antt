@@ -4,7 +4,7 @@ use mathlib.Core.Bool.{Bool, true, _&&_, _||_}
 use mathlib.Core.List.{List}
 use Prim.Native.Nat.{ℕ, zero, suc, _+_}
 use lib.Dec.{eqb, leb, ltb}
-use lib.ListN.{take, drop}
+use lib.ListN.{length, take, drop}
 use Rattle.bitset.specs.Choice.{pick}
 use Rattle.bitset.specs.Tasks.{isCount}
 use Rattle.bitset.specs.Set.{allOf, withinOf}
@@ -12,7 +12,8 @@ use Rattle.parents.specs.Parents.{checkOf, childrenOf}
 use Rattle.lines.specs.declared.Task.{Task}
 use Rattle.lines.specs.Common.{maxCount}
 use Rattle.machine.specs.declared.State.{State}
-use Rattle.machine.specs.Setters.{taskAt}
+use Rattle.machine.specs.Setters.{taskAt, movesAt, waitsAt}
+use Rattle.machine.specs.Tally.{maxTally}
 use Rattle.machine.specs.Fresh.{isKind, modulusOk, allBelow}
 
 -- "A table of N bytes gives each task's parent": the first N entries
@@ -52,10 +53,19 @@ taskZero t =
     eqb (t .line) 0 && eqb (t .count) 0 && eqb (t .tag) 0 && eqb (t .old) 0 && eqb (t .list) 0 && eqb (t .looked) 0
     && eqb (t .aim) 0 && eqb (t .toggle) 0 && eqb (t .flag) 0 && eqb (t .start) 0
 
--- the tasks below m: those of 0 to N − 1 are in range, the others all zero
+-- 02, P3: the tallies are "at most 4,000,000,000 each"; those of a task from N on are 0. A tally of task q:
+abbrev pub tallyOk : ℕ → ℕ → ℕ → Bool
+tallyOk n q tally = pick (ltb q n) (leb tally maxTally) (eqb tally 0)
+
+-- the task q, and its tallies: below N it is in range, and from N on all zero
+abbrev pub placeOk : State → ℕ → Bool
+placeOk s q =
+    pick (ltb q (s .n)) (taskOk s q (taskAt s q)) (taskZero (taskAt s q)) && (tallyOk (s .n) q (movesAt s q) && tallyOk (s .n) q (waitsAt s q))
+
+-- the tasks below m
 unfoldable pub tasksOk : State → ℕ → Bool
 tasksOk s zero = true
-tasksOk s (suc q) = tasksOk s q && pick (ltb q (s .n)) (taskOk s q (taskAt s q)) (taskZero (taskAt s q))
+tasksOk s (suc q) = tasksOk s q && placeOk s q
 
 -- only 0 is below 1
 abbrev pub allZero : List ℕ → Bool
@@ -68,6 +78,10 @@ parentsOk s =
     (eqb (checkOf (tableOf s) (s .n)) 0 && allZero (drop (s .n) (s .parents)))
     (allZero (s .parents))
 
+-- each task has its tallies; the code's types ensure it
+abbrev pub tallies64 : State → Bool
+tallies64 s = eqb (length (s .moves)) 64 && eqb (length (s .waits)) 64
+
 -- "Kind and N as above. .. Arrivals 0 to N. Sense .. 0 or 1."
 unfoldable pub stateOk : State → Bool
 stateOk s =
@@ -76,6 +90,7 @@ stateOk s =
     && fieldOk (eqb (s .kind) 1) 2 (s .sense)
     && parentsOk s
     && tasksOk s 64
+    && tallies64 s
 
 -- the reason that refuses a state: 7, "a field of the state is out of range", or 0
 unfoldable pub checkState : State → ℕ

@@ -1,13 +1,14 @@
 -- The range of a state, clause by clause: what a valid state has, and that fresh states and turns keep it.
 use mathlib.Core.Path.{_≡_, refl, sym, ap, subst}
 use mathlib.Core.Bool.{Bool, true, false, _||_, and-eq-true-iff}
+use mathlib.Core.List.{List}
 use mathlib.Core.Logic.{_⊎_, inl, inr, _≢_}
 use Prim.Native.Nat.{ℕ, zero, suc, _+_, _≤_, _<_}
 use native.Mathlib.Nat.{eq-or-lt-of-le, le-of-suc-le-suc, lt-of-not-le}
 use native.Mathlib.Omega.{arith}
 use lib.Dec.{eqb, leb, ltb}
-use lib.ListN.{length, List·getD-eq-default}
-use borrow.Author.Tests.{lt-ltb, le-ltb, le-leb, ltb-true, ltb-false, leb-true, eqb-false}
+use lib.ListN.{length, getD, List·getD-eq-default}
+use borrow.Author.Tests.{eq-eqb, lt-ltb, le-ltb, le-leb, ltb-true, ltb-false, leb-true, eqb-true, eqb-false}
 use Rattle.bitset.specs.Choice.{pick}
 use Rattle.bitset.specs.Set.{withinOf}
 use Rattle.bitset.specs.SetLaws.{is-count}
@@ -15,10 +16,10 @@ use Rattle.lines.specs.declared.Task.{Task}
 use Rattle.machine.specs.declared.State.{State}
 use Rattle.lines.specs.Setters.{zeroTask}
 use Rattle.lines.specs.Common.{maxCount}
-use Rattle.machine.specs.Setters.{taskAt}
+use Rattle.machine.specs.Setters.{taskAt, movesAt, waitsAt}
 use Rattle.machine.specs.Fresh.{modulusOk}
 use Rattle.bitset.specs.ChoiceLaws.{by-test}
-use Rattle.machine.specs.Range.{lastLine, fieldOk, listRoom, taskOk, taskZero, tasksOk, parentsOk, stateOk, checkState, Valid}
+use Rattle.machine.specs.Range.{lastLine, fieldOk, listRoom, taskOk, taskZero, tallyOk, placeOk, tasksOk, parentsOk, stateOk, checkState, Valid}
 
 -- ---- clause by clause
 
@@ -36,6 +37,11 @@ pub record TaskRange (s : State) (q : ℕ) (t : Task) : Type 0 where
   pub flag : fieldOk (eqb (s .kind) 3) 2 (t .flag) ≡ true
   pub start : fieldOk (eqb (s .kind) 0) (s .n) (t .start) ≡ true
 
+-- what is tested of the tallies: each is at most its limit, and 0 from N on
+pub record Tallies (n : ℕ) (tallies : List ℕ) : Type 0 where
+  pub long : length tallies ≡ 64
+  pub each : (q : ℕ) → q < 64 → tallyOk n q (getD tallies q 0) ≡ true
+
 -- what stateOk tests
 pub record InRange (s : State) : Type 0 where
   pub kind : s .kind ≤ 3
@@ -47,6 +53,8 @@ pub record InRange (s : State) : Type 0 where
   pub parents : parentsOk s ≡ true
   pub tasks : (q : ℕ) → q < s .n → TaskRange s q (taskAt s q)
   pub rest : (q : ℕ) → s .n ≤ q → q < 64 → taskZero (taskAt s q) ≡ true
+  pub moves : Tallies (s .n) (s .moves)
+  pub waits : Tallies (s .n) (s .waits)
 
 task-range : (s : State) (q : ℕ) (t : Task) → taskOk s q t ≡ true → TaskRange s q t
 unfolding taskOk
@@ -92,22 +100,30 @@ range-task s q t r =
       r .start,
     )
 
-tasks-at : (s : State) (m q : ℕ) → tasksOk s m ≡ true → q < m → pick (ltb q (s .n)) (taskOk s q (taskAt s q)) (taskZero (taskAt s q)) ≡ true
+tasks-at : (s : State) (m q : ℕ) → tasksOk s m ≡ true → q < m → placeOk s q ≡ true
 unfolding tasksOk
 tasks-at s zero q e h = absurd (omega arith)
 tasks-at s (suc m) q e h = go (eq-or-lt-of-le (le-of-suc-le-suc h)) (and-eq-true-iff _ _ .0 e) (tasks-at s m q)
   where
-    at : ℕ → Bool
-    at r = pick (ltb r (s .n)) (taskOk s r (taskAt s r)) (taskZero (taskAt s r))
-
-    go : (q ≡ m) ⊎ (q < m) → (tasksOk s m ≡ true) × (at m ≡ true) → (tasksOk s m ≡ true → q < m → at q ≡ true) → at q ≡ true
-    go (inl e) both ih = subst (λ (r : ℕ). at r ≡ true) (sym e) (both .1)
+    go : (q ≡ m) ⊎ (q < m) → (tasksOk s m ≡ true) × (placeOk s m ≡ true) → (tasksOk s m ≡ true → q < m → placeOk s q ≡ true) → placeOk s q ≡ true
+    go (inl e) both ih = subst (λ (r : ℕ). placeOk s r ≡ true) (sym e) (both .1)
     go (inr l) both ih = ih (both .0) l
 
-tasks-all : (s : State) (m : ℕ) → ((q : ℕ) → q < m → pick (ltb q (s .n)) (taskOk s q (taskAt s q)) (taskZero (taskAt s q)) ≡ true) → tasksOk s m ≡ true
+tasks-all : (s : State) (m : ℕ) → ((q : ℕ) → q < m → placeOk s q ≡ true) → tasksOk s m ≡ true
 unfolding tasksOk
 tasks-all s zero f = refl
 tasks-all s (suc m) f = and-eq-true-iff _ _ .1 (tasks-all s m (λ q h. f q (omega arith)), f m (omega arith))
+
+-- what the test of a place tells of its task, and of its tallies
+abbrev known : State → ℕ → Bool
+known s q = pick (ltb q (s .n)) (taskOk s q (taskAt s q)) (taskZero (taskAt s q))
+
+place-parts : (s : State) (q : ℕ) → placeOk s q ≡ true
+    → (known s q ≡ true) × (tallyOk (s .n) q (movesAt s q) ≡ true) × (tallyOk (s .n) q (waitsAt s q) ≡ true)
+place-parts s q e =
+    let both = and-eq-true-iff _ _ .0 e in
+    let tallies = and-eq-true-iff _ _ .0 (both .1) in
+    (both .0, tallies .0, tallies .1)
 
 -- a valid state is in range, clause by clause, and the other way round
 pub range : (s : State) → Valid s → InRange s
@@ -117,13 +133,17 @@ range s e = go (stateOk s) refl e
     go : (b : Bool) → stateOk s ≡ b → _≡_ {A = ℕ} (pick b 0 7) 0 → InRange s
     go false _ z = absurd (omega arith)
     go true ok z =
-        let e6 = and-eq-true-iff _ _ .0 ok in
+        let e7 = and-eq-true-iff _ _ .0 ok in
+        let e6 = and-eq-true-iff _ _ .0 (e7 .0) in
         let e5 = and-eq-true-iff _ _ .0 (e6 .0) in
         let e4 = and-eq-true-iff _ _ .0 (e5 .0) in
         let e3 = and-eq-true-iff _ _ .0 (e4 .0) in
         let e2 = and-eq-true-iff _ _ .0 (e3 .0) in
         let e1 = and-eq-true-iff _ _ .0 (e2 .0) in
         let n = is-count (s .n) (e1 .1) in
+        let long = and-eq-true-iff _ _ .0 (e7 .1) in
+        let at : (q : ℕ) → q < 64 → (known s q ≡ true) × (tallyOk (s .n) q (movesAt s q) ≡ true) × (tallyOk (s .n) q (waitsAt s q) ≡ true)
+        = λ q h. place-parts s q (tasks-at s 64 q (e6 .1) h) in
         record {
           kind = leb-true (s .kind) 3 (e1 .0);
           some = n .0;
@@ -132,8 +152,10 @@ range s e = go (stateOk s) refl e
           arrivals = e3 .1;
           sense = e4 .1;
           parents = e5 .1;
-          tasks = λ q h. task-range s q (taskAt s q) (rw (lt-ltb q (s .n) h) at (tasks-at s 64 q (e6 .1) (omega arith)));
-          rest = λ q h l. rw (le-ltb q (s .n) h) at (tasks-at s 64 q (e6 .1) l);
+          tasks = λ q h. task-range s q (taskAt s q) (rw (lt-ltb q (s .n) h) at (at q (omega arith) .0));
+          rest = λ q h l. rw (le-ltb q (s .n) h) at (at q l .0);
+          moves = record { long = eqb-true (length (s .moves)) 64 (long .0); each = λ q h. at q h .1 };
+          waits = record { long = eqb-true (length (s .waits)) 64 (long .1); each = λ q h. at q h .2 };
         }
 
 pub valid : (s : State) → InRange s → Valid s
@@ -147,8 +169,17 @@ valid s r =
       r .arrivals,
       r .sense,
       r .parents,
-      tasks-all s 64 (λ q h. by-test (λ b. b ≡ true) (ltb q (s .n)) (λ l. range-task s q (taskAt s q) (r .tasks q (ltb-true q (s .n) l))) (λ l. r .rest q (ltb-false q (s .n) l) h)),
+      tasks-all s 64 place,
+      eq-eqb (length (s .moves)) 64 (r .moves .long),
+      eq-eqb (length (s .waits)) 64 (r .waits .long),
     )
+  where
+    place : (q : ℕ) → q < 64 → placeOk s q ≡ true
+    place q h =
+        and-eq-true-iff _ _ .1 (
+          by-test (λ b. b ≡ true) (ltb q (s .n)) (λ l. range-task s q (taskAt s q) (r .tasks q (ltb-true q (s .n) l))) (λ l. r .rest q (ltb-false q (s .n) l) h),
+          and-eq-true-iff _ _ .1 (r .moves .each q h, r .waits .each q h),
+        )
 
 -- what refuses a state is no 9, so that a run's answer to it has no place
 pub check-not-9 : (s : State) → checkState s ≢ 9

@@ -1,7 +1,7 @@
 -- Rounds (02, P2): what a turn makes of the counts, and so of the least count.
 use mathlib.Core.Path.{_≡_, refl, sym, ap, _∙_}
 use mathlib.Core.List.{List}
-use mathlib.Core.Logic.{_≢_, inl, inr}
+use mathlib.Core.Logic.{_≢_}
 use Prim.Native.Nat.{ℕ, _+_, _-_, _≤_, _<_}
 use native.Mathlib.Omega.{arith}
 use lib.Dec.{ltb}
@@ -12,24 +12,19 @@ use Rattle.bitset.specs.TableLaws.{length-table}
 use Rattle.counts.specs.Counts.{leastOf, closesOf}
 use Rattle.counts.specs.CountsLaws.{KeptOrRaised, least-lent, least-table, rise-closes}
 use Rattle.lines.specs.declared.Task.{Task}
-use Rattle.lines.specs.declared.Effect.{Effect}
-use Rattle.lines.specs.declared.Act.{Act}
-use Rattle.lines.specs.declared.Act.the-variants.{Moves, Waits, Refuses}
-use Rattle.lines.specs.declared.Write.{Write}
-use Rattle.lines.specs.LineLaws.{Does, keeps, raises, stays, refused-7, refused-11}
 use Rattle.machine.specs.declared.State.{State}
 use Rattle.machine.specs.declared.Move.{Move}
 use Rattle.machine.specs.declared.Move.the-variants.{Moved, Waited}
 use Rattle.machine.specs.declared.Outcome.the-variants.{Made}
 use Rattle.machine.specs.declared.Turned.{Turned}
-use Rattle.machine.specs.Setters.{taskAt}
+use Rattle.machine.specs.Tally.{waitTallied}
 use Rattle.machine.specs.Range.{Valid}
 use Rattle.machine.specs.RangeLaws.{range, present}
 use Rattle.machine.specs.Least.{countOf, countsOf, least, closedBy}
 use Rattle.machine.specs.LeastLaws.{least-le, least-attained}
-use Rattle.machine.specs.Turn.{sharedOf, effectOf, outcomeOf, movedTo, applied, turnOf, closedNumber}
-use Rattle.machine.specs.TurnLaws.{by-turn, turn-step, effect-does, step-state, step-outcome, moved-acts, waited-still, turn-constants, moved-n, stored-moved, turn-made, own-field, other-field}
-use Rattle.machine.specs.CountLaws.{turn-rises, turn-least}
+use Rattle.machine.specs.Turn.{effectOf, movedTo, turnOf, closedNumber}
+use Rattle.machine.specs.TurnLaws.{turn-step, step-outcome, turn-moves, turn-makes, waited-tallied, moved-tallied, turn-constants, moved-n, stored-moved, turn-made, own-field, other-field}
+use Rattle.machine.specs.CountLaws.{kept-or-raised, turn-rises, turn-least}
 
 -- ---- the counts as they are lent
 
@@ -44,17 +39,6 @@ module _ (s : State) (n : ℕ) (few : n ≤ 64) (all : List ℕ) (is : all ≡ c
       least-lent all n some lent-there ∙ ap (λ (l : List ℕ). leastOf (λ q. getD l q 0) n) is ∙ least-table (countOf s) n 64 some few
 
 -- ---- the counts after a move
-
--- a line keeps its task's count or raises it by one
-pub kept-or-raised : (s : State) (p : ℕ) → KeptOrRaised (countOf s p) (effectOf s p .task .count)
-kept-or-raised s p = go (effectOf s p) (effect-does s p)
-  where
-    go : (e : Effect) → Does (sharedOf s) (taskAt s p) e → KeptOrRaised (countOf s p) (e .task .count)
-    go _ (keeps c) = inl c
-    go _ (raises l c) = inr c
-    go _ stays = inl refl
-    go _ (refused-7 k) = inl refl
-    go _ (refused-11 l) = inl refl
 
 module _ (s : State) (p : ℕ) (ok : Valid s) (h : p < s .n) where
   -- the state with what the effect has stored
@@ -82,28 +66,28 @@ module _ (s : State) (p : ℕ) (ok : Valid s) (h : p < s .n) where
 
   -- after a turn that is made the own task has the effect's count, and every other the one it had
   module _ (how : Move) (made : turnOf s p .outcome ≡ Made how) where
-    after-turn : turnOf s p .state ≡ after
-    after-turn = ap (λ (r : Turned). r .state) (turn-made s p ok h how (sym (ap (λ (r : Turned). r .outcome) (turn-step s p ok h) ∙ step-outcome s p) ∙ made)) ∙ stored-moved s p (effectOf s p)
+    -- but for the tallies, which have no counts
+    after-turn : (q : ℕ) → countOf (turnOf s p .state) q ≡ countOf after q
+    after-turn q =
+        ap (λ (r : Turned). countOf (r .state) q) (turn-made s p ok h how (sym (ap (λ (r : Turned). r .outcome) (turn-step s p ok h) ∙ step-outcome s p) ∙ made))
+        ∙ ap (λ (x : State). countOf x q) (stored-moved s p (effectOf s p) how)
 
     pub own-made : countOf (turnOf s p .state) p ≡ effectOf s p .task .count
-    own-made = ap (λ (x : State). countOf x p) after-turn ∙ own-count
+    own-made = after-turn p ∙ own-count
 
     pub other-made : (q : ℕ) → q ≢ p → countOf (turnOf s p .state) q ≡ countOf s q
-    other-made q ne = ap (λ (x : State). countOf x q) after-turn ∙ other-count q ne
+    other-made q ne = after-turn q ∙ other-count q ne
 
 -- ---- what the answer carries
 
 -- 02, P2: "1 if the least count rose in that turn, else 0"
 pub turn-closed : (s : State) (p c : ℕ) → turnOf s p .outcome ≡ Made (Moved c) → c ≡ closedBy s (turnOf s p .state)
-turn-closed s p c =
-    by-turn (λ r. r .outcome ≡ Made (Moved c) → c ≡ closedBy s (r .state)) s p (λ k e. let z : _≡_ {A = ℕ} 0 1 = cc in absurd (omega arith))
-    (λ ok h e. rw (step-state s p) (go (effectOf s p .act) _ (effectOf s p .task) (effectOf s p .write) refl (sym (step-outcome s p) ∙ e)))
-  where
-    go : (a : Act) (x : ℕ) (t : Task) (w : Write) → x ≡ closedBy s (movedTo s p t w) → outcomeOf a x ≡ Made (Moved c)
-        → c ≡ closedBy s (applied (outcomeOf a x) s p t w)
-    go Moves x t w d e = let same : x ≡ c = cc in sym same ∙ d
-    go Waits x t w d e = let z : _≡_ {A = ℕ} 0 1 = cc in absurd (omega arith)
-    go (Refuses k) x t w d e = let z : _≡_ {A = ℕ} 0 1 = cc in absurd (omega arith)
+unfolding least
+turn-closed s p c e =
+    let m = turn-makes s p (Moved c) e in
+    let told = turn-moves s p (m .valid) (m .known) (m .act) (m .room) in
+    let same : c ≡ closedBy s (movedTo s p (effectOf s p .task) (effectOf s p .write)) = cc in
+    rw (moved-tallied s p c e) same
 
 -- a turn raises the least count by one at most
 pub turn-least-one : (s : State) (p : ℕ) → 0 < s .n → least (turnOf s p .state) ≤ least s + 1
@@ -120,5 +104,9 @@ turn-round s p (Moved c) e =
     (λ no. omega (arith, ltb-false (least s) (least (turnOf s p .state)) no, turn-least s p known)))
   where
     known : 0 < s .n
-    known = omega (arith, moved-acts s p c e .0)
-turn-round s p Waited e = rw (waited-still s p e) (omega arith)
+    known = omega (arith, turn-makes s p (Moved c) e .known)
+turn-round s p Waited e = rw (waited-tallied s p e) (waits s p)
+  where
+    -- a tally has no count
+    waits : (s : State) (p : ℕ) → least (waitTallied s p) ≡ least s + 0
+    waits s p = unfold least in omega arith

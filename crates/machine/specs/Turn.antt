@@ -18,7 +18,8 @@ use Rattle.machine.specs.declared.Move.the-variants.{Moved, Waited}
 use Rattle.machine.specs.declared.Outcome.{Outcome}
 use Rattle.machine.specs.declared.Outcome.the-variants.{Made, Refused}
 use Rattle.machine.specs.declared.Turned.{Turned}
-use Rattle.machine.specs.Setters.{taskAt, withTask, withArrivals, withSense}
+use Rattle.machine.specs.Setters.{taskAt, movesAt, waitsAt, withTask, withArrivals, withSense}
+use Rattle.machine.specs.Tally.{maxTally, moveTallied, waitTallied}
 use Rattle.machine.specs.Range.{tableOf, checkState}
 use Rattle.machine.specs.Least.{closedBy}
 
@@ -35,10 +36,12 @@ effectOf s p = effectBy s p (taskAt s p)
 
 -- what a turn answers: "moved (its line was carried out), waited (its line is an await whose condition is false ..) or a refusal".
 -- 02, P2: "The answer moved now carries" whether it closed a round; waited and refused carry nothing.
-abbrev pub outcomeOf : Act → ℕ → Outcome
-outcomeOf Moves closed = Made (Moved closed)
-outcomeOf Waits closed = Made Waited
-outcomeOf (Refuses k) closed = Refused k
+-- 02, P3: "13 is a turn that would raise a tally past its limit; a turn checks it after 11": a move would raise its task's tally of moves, a wait
+-- its tally of waits, and neither the other.
+abbrev pub outcomeOf : Act → ℕ → ℕ → ℕ → Outcome
+outcomeOf Moves closed moves waits = pick (ltb moves maxTally) (Made (Moved closed)) (Refused 13)
+outcomeOf Waits closed moves waits = pick (ltb waits maxTally) (Made Waited) (Refused 13)
+outcomeOf (Refuses k) closed moves waits = Refused k
 
 -- the state with a shared word written
 abbrev pub written : Write → State → State
@@ -48,21 +51,22 @@ written (Sense x) s = withSense s x
 written (Toggle q x) s = withTask s q (withToggle (taskAt s q) x)
 written (Flag q x) s = withTask s q (withFlag (taskAt s q) x)
 
--- the state that a move of p leaves: the own task is stored, then the shared word
+-- what a move of p writes: the own task is stored, then the shared word
 abbrev pub movedTo : State → ℕ → Task → Write → State
 movedTo s p t w = written w (withTask s p t)
 
 -- the answer of a turn of p, by what its line does: a move closes a round if the least count rises by it
 abbrev pub answerOf : State → ℕ → Effect → Outcome
-answerOf s p e = outcomeOf (e .act) (closedBy s (movedTo s p (e .task) (e .write)))
+answerOf s p e = outcomeOf (e .act) (closedBy s (movedTo s p (e .task) (e .write))) (movesAt s p) (waitsAt s p)
 
--- what the outcome makes of the state; "a turn that waits changes nothing"
+-- what the outcome makes of the state. 02, P3: a move is tallied too, and "a turn that waits now raises its task's wait tally by one and nothing
+-- else". A refused turn leaves the state, and tallies nothing.
 abbrev pub applied : Outcome → State → ℕ → Task → Write → State
-applied (Made (Moved closed)) s p t w = movedTo s p t w
-applied (Made Waited) s p t w = s
+applied (Made (Moved closed)) s p t w = moveTallied (movedTo s p t w) p
+applied (Made Waited) s p t w = waitTallied s p
 applied (Refused k) s p t w = s
 
--- one line of the task p, with the refusals of the line: 7 at 13 of kind 1, and 11
+-- one line of the task p, with the refusals of the line, 7 at 13 of kind 1 and 11, and then 13
 unfoldable pub stepOf : State → ℕ → Turned
 unfolding effectOf
 stepOf s p =
@@ -73,7 +77,7 @@ stepOf s p =
 abbrev pub refusedTurn : State → ℕ → Turned
 refusedTurn s k = record { state = s; outcome = Refused k }
 
--- "A turn 7, 9, 11", 9: "A task number is N or more"
+-- "A turn 7, 9, 11", and 13 after it; 9: "A task number is N or more"
 unfoldable pub turnOf : State → ℕ → Turned
 turnOf s p =
     pick (eqb (checkState s) 0)
@@ -84,6 +88,11 @@ turnOf s p =
 abbrev pub moveNumber : Move → ℕ
 moveNumber (Moved closed) = 1
 moveNumber Waited = 0
+
+-- 1 for a turn that waited, 0 for one that moved
+abbrev pub waitNumber : Move → ℕ
+waitNumber (Moved closed) = 0
+waitNumber Waited = 1
 
 abbrev pub reasonNumber : Outcome → ℕ
 reasonNumber (Made m) = 0

@@ -2,14 +2,14 @@
 use mathlib.Core.Path.{_≡_, refl, sym, ap, _∙_}
 use mathlib.Core.Bool.{false, true≢false}
 use mathlib.Core.List.{List}
-use mathlib.Core.Logic.{_≢_}
-use Prim.Native.Nat.{ℕ, _≤_, _<_}
+use mathlib.Core.Logic.{_≢_, _⊎_, inl, inr}
+use Prim.Native.Nat.{ℕ, _+_, _-_, _≤_, _<_}
 use native.Mathlib.Decide.{ℕ-discrete, decLt}
 use native.Mathlib.Omega.{arith}
 use lib.Dec.{eqb, ltb}
 use lib.ListN.{length, getD, set}
 use lib.Seq.{getD-set-same, getD-set-other, set-out, set-getD}
-use borrow.Author.Tests.{eq-eqb, lt-ltb, le-ltb, ltb-true, eqb-true}
+use borrow.Author.Tests.{eq-eqb, lt-ltb, le-ltb, ltb-true, ltb-false, eqb-true}
 use Rattle.bitset.specs.ChoiceLaws.{by-test}
 use Rattle.lines.specs.declared.Task.{Task}
 use Rattle.lines.specs.declared.Effect.{Effect}
@@ -18,7 +18,7 @@ use Rattle.lines.specs.declared.Act.the-variants.{Moves, Waits, Refuses}
 use Rattle.lines.specs.declared.Write.{Write}
 use Rattle.lines.specs.declared.Write.the-variants.{Nothing, Arrivals, Sense, Toggle, Flag}
 use Rattle.lines.specs.Setters.{zeroTask, withToggle, withFlag}
-use Rattle.lines.specs.Common.{moves, waits}
+use Rattle.lines.specs.Common.{moves}
 use Rattle.lines.specs.Symmetric.{symmetricLine}
 use Rattle.lines.specs.Increment.{incrementLine}
 use Rattle.lines.specs.Ring.{ringLine}
@@ -32,10 +32,11 @@ use Rattle.machine.specs.declared.Move.the-variants.{Moved, Waited}
 use Rattle.machine.specs.declared.Outcome.{Outcome}
 use Rattle.machine.specs.declared.Outcome.the-variants.{Made, Refused}
 use Rattle.machine.specs.declared.Turned.{Turned}
-use Rattle.machine.specs.Setters.{taskAt, withTask, withTasks, withArrivals, withSense}
+use Rattle.machine.specs.Setters.{taskAt, movesAt, waitsAt, withTask, withTasks, withArrivals, withSense, withMoves, withWaits}
+use Rattle.machine.specs.Tally.{maxTally, tallied, moveTallied, waitTallied}
 use Rattle.machine.specs.Range.{tableOf, checkState, Valid}
 use Rattle.machine.specs.Least.{closedBy}
-use Rattle.machine.specs.Turn.{sharedOf, effectOf, outcomeOf, written, movedTo, answerOf, applied, stepOf, refusedTurn, turnOf}
+use Rattle.machine.specs.Turn.{sharedOf, effectOf, outcomeOf, written, movedTo, answerOf, applied, stepOf, refusedTurn, turnOf, moveNumber, waitNumber, reasonNumber}
 
 -- ---- by cases
 
@@ -91,6 +92,15 @@ module _ (s : State) (p : ℕ) where
   unfolding effectOf
   effect-does = does (sharedOf s) (tableOf s) p own seen
 
+-- what the number of a turn that is made can be, and what it leaves of 1
+pub number-le : (how : Move) (k : ℕ) → k ≡ moveNumber how → k ≤ 1
+number-le (Moved c) k e = omega arith
+number-le Waited k e = omega arith
+
+wait-number : (how : Move) → 1 - moveNumber how ≡ waitNumber how
+wait-number (Moved c) = refl
+wait-number Waited = refl
+
 -- ---- the answer
 
 -- a step is what its effect makes of the state
@@ -103,59 +113,119 @@ pub step-outcome : (s : State) (p : ℕ) → stepOf s p .outcome ≡ answerOf s 
 unfolding stepOf
 step-outcome s p = refl
 
--- a line's own outcome, from what the turn answers
-acts-move : (a : Act) (closed c : ℕ) → outcomeOf a closed ≡ Made (Moved c) → a ≡ Moves
-acts-move Moves closed c e = refl
-acts-move Waits closed c e = cc
-acts-move (Refuses k) closed c e = cc
+-- the line's own outcome of a turn that is made, and the tally that the turn raises
+abbrev pub actOf : Move → Act
+actOf (Moved c) = Moves
+actOf Waited = Waits
 
--- a turn is answered moved where its line moves
-pub turn-moves : (s : State) (p : ℕ) → Valid s → p < s .n → effectOf s p .act ≡ Moves
+abbrev pub raisedBy : Move → ℕ → ℕ → ℕ
+raisedBy (Moved c) m w = m
+raisedBy Waited m w = w
+
+-- a turn that is made is its line's own outcome, and has room in the tally that it raises
+made-by : (a : Act) (closed m w : ℕ) (how : Move) → outcomeOf a closed m w ≡ Made how → (a ≡ actOf how) × (raisedBy how m w < maxTally)
+made-by Moves closed m w how e =
+    by-test (λ o. o ≡ Made how → (Moves ≡ actOf how) × (raisedBy how m w < maxTally)) (ltb m maxTally)
+    (λ room. moved how (ltb-true m maxTally room)) (λ _ q. let z : _≡_ {A = ℕ} 0 1 = cc in absurd (omega arith)) e
+  where
+    moved : (h : Move) → m < maxTally → Made (Moved closed) ≡ Made h → (Moves ≡ actOf h) × (raisedBy h m w < maxTally)
+    moved (Moved c) room q = (refl, room)
+    moved Waited room q = let z : _≡_ {A = ℕ} 0 1 = cc in absurd (omega arith)
+made-by Waits closed m w how e =
+    by-test (λ o. o ≡ Made how → (Waits ≡ actOf how) × (raisedBy how m w < maxTally)) (ltb w maxTally)
+    (λ room. waited how (ltb-true w maxTally room)) (λ _ q. let z : _≡_ {A = ℕ} 0 1 = cc in absurd (omega arith)) e
+  where
+    waited : (h : Move) → w < maxTally → Made Waited ≡ Made h → (Waits ≡ actOf h) × (raisedBy h m w < maxTally)
+    waited (Moved c) room q = let z : _≡_ {A = ℕ} 0 1 = cc in absurd (omega arith)
+    waited Waited room q = (refl, room)
+made-by (Refuses k) closed m w how e = let z : _≡_ {A = ℕ} 0 1 = cc in absurd (omega arith)
+
+-- the tally that a line's outcome would raise is at its limit
+abbrev pub Full : Act → ℕ → ℕ → Type 0
+Full Moves m w = maxTally ≤ m
+Full Waits m w = maxTally ≤ w
+Full (Refuses k) m w = ⊥
+
+-- a turn that is refused is refused by its line, or 13 for a tally at its limit
+refused-by : (a : Act) (closed m w k : ℕ) → outcomeOf a closed m w ≡ Refused k → (a ≡ Refuses k) ⊎ ((k ≡ 13) × Full a m w)
+refused-by Moves closed m w k e =
+    by-test (λ o. o ≡ Refused k → (Moves ≡ Refuses k) ⊎ ((k ≡ 13) × Full Moves m w)) (ltb m maxTally)
+    (λ _ q. let z : _≡_ {A = ℕ} 0 1 = cc in absurd (omega arith)) (λ full q. let same : 13 ≡ k = cc in inr (sym same, ltb-false m maxTally full)) e
+refused-by Waits closed m w k e =
+    by-test (λ o. o ≡ Refused k → (Waits ≡ Refuses k) ⊎ ((k ≡ 13) × Full Waits m w)) (ltb w maxTally)
+    (λ _ q. let z : _≡_ {A = ℕ} 0 1 = cc in absurd (omega arith)) (λ full q. let same : 13 ≡ k = cc in inr (sym same, ltb-false w maxTally full)) e
+refused-by (Refuses j) closed m w k e = let same : j ≡ k = cc in inl (ap Refuses same)
+
+-- a turn is answered moved where its line moves and its tally of moves is below the limit
+pub turn-moves : (s : State) (p : ℕ) → Valid s → p < s .n → effectOf s p .act ≡ Moves → movesAt s p < maxTally
     → turnOf s p .outcome ≡ Made (Moved (closedBy s (movedTo s p (effectOf s p .task) (effectOf s p .write))))
-turn-moves s p ok h e = rw (turn-step s p ok h, step-outcome s p, e)
+turn-moves s p ok h e room = rw (turn-step s p ok h, step-outcome s p, e, lt-ltb (movesAt s p) maxTally room)
 
-pub moved-acts : (s : State) (p c : ℕ) → turnOf s p .outcome ≡ Made (Moved c) → (p < s .n) × (effectOf s p .act ≡ Moves)
-moved-acts s p c =
-    by-turn (λ r. r .outcome ≡ Made (Moved c) → (p < s .n) × (effectOf s p .act ≡ Moves)) s p (λ k e. cc-absurd k e)
-    (λ ok h e. (h, acts-move (effectOf s p .act) _ c (sym (step-outcome s p) ∙ e)))
+-- what is known of a turn that is made
+pub record Makes (s : State) (p : ℕ) (how : Move) : Type 0 where
+  pub valid : Valid s
+  pub known : p < s .n
+  pub act : effectOf s p .act ≡ actOf how
+  pub room : raisedBy how (movesAt s p) (waitsAt s p) < maxTally
+
+pub turn-makes : (s : State) (p : ℕ) (how : Move) → turnOf s p .outcome ≡ Made how → Makes s p how
+turn-makes s p how =
+    by-turn (λ r. r .outcome ≡ Made how → Makes s p how) s p (λ k e. let z : _≡_ {A = ℕ} 0 1 = cc in absurd (omega arith))
+    (λ ok h e. let by = made-by (effectOf s p .act) _ (movesAt s p) (waitsAt s p) how (sym (step-outcome s p) ∙ e) in
+    record { valid = ok; known = h; act = by .0; room = by .1 })
+
+-- a refusal of a known task, in a state in range
+pub refusal-acts : (s : State) (p k : ℕ) → Valid s → p < s .n → turnOf s p .outcome ≡ Refused k
+    → (effectOf s p .act ≡ Refuses k) ⊎ ((k ≡ 13) × Full (effectOf s p .act) (movesAt s p) (waitsAt s p))
+refusal-acts s p k ok h e =
+    refused-by (effectOf s p .act) _ (movesAt s p) (waitsAt s p) k (sym (ap (λ (r : Turned). r .outcome) (turn-step s p ok h) ∙ step-outcome s p) ∙ e)
+
+-- a turn whose line moves is answered moved, unless it is refused 13
+pub able-moves : (s : State) (p : ℕ) → Valid s → p < s .n → effectOf s p .act ≡ Moves → reasonNumber (turnOf s p .outcome) ≢ 13
+    → (c : ℕ) × (turnOf s p .outcome ≡ Made (Moved c))
+able-moves s p ok h act not-13 = go (turnOf s p .outcome) refl
   where
-    cc-absurd : (k : ℕ) → Refused k ≡ Made (Moved c) → (p < s .n) × (effectOf s p .act ≡ Moves)
-    cc-absurd k e = let z : _≡_ {A = ℕ} 0 1 = cc in absurd (omega arith)
+    refused : (k : ℕ) → reasonNumber (turnOf s p .outcome) ≡ k → (effectOf s p .act ≡ Refuses k) ⊎ ((k ≡ 13) × Full (effectOf s p .act) (movesAt s p) (waitsAt s p)) → ⊥
+    refused k e (inl a) = let z : _≡_ {A = ℕ} 0 1 = cc in omega arith
+    refused k e (inr w) = not-13 (e ∙ w .0)
 
--- ---- what a turn leaves as it was
+    go : (o : Outcome) → turnOf s p .outcome ≡ o → (c : ℕ) × (o ≡ Made (Moved c))
+    go (Made (Moved c)) e = (c, refl)
+    go (Made Waited) e =
+        let a = turn-makes s p Waited e .act in
+        let z : _≡_ {A = ℕ} 0 1 = cc in
+        absurd (omega arith)
+    go (Refused k) e = absurd (refused k (ap reasonNumber e) (refusal-acts s p k ok h e))
 
--- a refused call "returns .. the state it got"
-pub refused-still : (s : State) (p k : ℕ) → turnOf s p .outcome ≡ Refused k → turnOf s p .state ≡ s
-refused-still s p k =
-    by-turn (λ r. r .outcome ≡ Refused k → r .state ≡ s) s p (λ j e. refl)
-    (λ ok h. unfold stepOf in go (answerOf s p (effectOf s p)))
-  where
-    go : (o : Outcome) → o ≡ Refused k → applied o s p (effectOf s p .task) (effectOf s p .write) ≡ s
-    go (Made (Moved c)) e = let z : _≡_ {A = ℕ} 0 1 = cc in absurd (omega arith)
-    go (Made Waited) e = refl
-    go (Refused j) e = refl
+-- ---- what a turn leaves
 
--- "A turn that waits changes nothing"
-pub waited-still : (s : State) (p : ℕ) → turnOf s p .outcome ≡ Made Waited → turnOf s p .state ≡ s
-waited-still s p =
-    by-turn (λ r. r .outcome ≡ Made Waited → r .state ≡ s) s p (λ j e. refl)
-    (λ ok h. unfold stepOf in go (answerOf s p (effectOf s p)))
-  where
-    go : (o : Outcome) → o ≡ Made Waited → applied o s p (effectOf s p .task) (effectOf s p .write) ≡ s
-    go (Made (Moved c)) e = let z : _≡_ {A = ℕ} 0 1 = cc in absurd (omega arith)
-    go (Made Waited) e = refl
-    go (Refused j) e = refl
+-- the state after a turn, by what it answers
+pub turn-applied : (s : State) (p : ℕ) → turnOf s p .state ≡ applied (turnOf s p .outcome) s p (effectOf s p .task) (effectOf s p .write)
+turn-applied s p =
+    by-turn (λ r. r .state ≡ applied (r .outcome) s p (effectOf s p .task) (effectOf s p .write)) s p (λ k. refl) (λ ok h. unfold stepOf in refl)
 
--- a move stores its own task, and then writes its word
-pub turn-moved : (s : State) (p : ℕ) → Valid s → p < s .n → effectOf s p .act ≡ Moves
-    → turnOf s p .state ≡ written (effectOf s p .write) (withTask s p (effectOf s p .task))
-turn-moved s p ok h e = rw (turn-step s p ok h, step-state s p, e)
+module _ (s : State) (p : ℕ) where
+  by-answer : (o : Outcome) → turnOf s p .outcome ≡ o → turnOf s p .state ≡ applied o s p (effectOf s p .task) (effectOf s p .write)
+  by-answer o e = turn-applied s p ∙ ap (λ (x : Outcome). applied x s p (effectOf s p .task) (effectOf s p .write)) e
+
+  -- a refused call "returns .. the state it got"
+  pub refused-still : (k : ℕ) → turnOf s p .outcome ≡ Refused k → turnOf s p .state ≡ s
+  refused-still k e = by-answer (Refused k) e
+
+  -- 02, P3: "a turn that waits now raises its task's wait tally by one and nothing else"
+  pub waited-tallied : turnOf s p .outcome ≡ Made Waited → turnOf s p .state ≡ waitTallied s p
+  waited-tallied e = by-answer (Made Waited) e
+
+  -- a move stores its own task, and then writes its word; 02, P3: it "also raises its task's move tally by one"
+  pub moved-tallied : (c : ℕ) → turnOf s p .outcome ≡ Made (Moved c) → turnOf s p .state ≡ moveTallied (movedTo s p (effectOf s p .task) (effectOf s p .write)) p
+  moved-tallied c e = by-answer (Made (Moved c)) e
 
 -- ---- what a turn stores, straight on
 
--- all that an effect has, stored whatever the outcome: the own task, the arrivals, the sense, and the task that is written to
-abbrev pub stored : State → ℕ → Effect → State
-stored s p e =
+-- all that an effect has, stored whatever the outcome: the own task, the arrivals, the sense, and the task that is written to; and both tallies,
+-- by what the turn did
+abbrev pub stored : State → ℕ → Effect → Move → State
+stored s p e how =
     let tasks = set (s .tasks) p (e .task) in
     record {
       kind = s .kind;
@@ -164,11 +234,14 @@ stored s p e =
       arrivals = arrivalsAfter (e .write) (s .arrivals);
       sense = senseAfter (e .write) (s .sense);
       parents = s .parents;
+      moves = tallied (s .moves) p (moveNumber how);
+      waits = tallied (s .waits) p (waitNumber how);
       tasks = set tasks (placeOf (e .write) p) (taskAfter (e .write) (getD tasks (placeOf (e .write) p) zeroTask));
     }
 
--- the state after a turn's stores, one after the other
-pub stored-is : (state : State) (p : ℕ) (e : Effect) (arrivals sense place : ℕ) (there : Task)
+-- the state after a turn's stores, one after the other, where both tallies are stored
+pub stored-is : (state : State) (p : ℕ) (e : Effect) (how : Move) (byte arrivals sense place : ℕ) (there : Task)
+    → byte ≡ moveNumber how
     → arrivals ≡ arrivalsAfter (e .write) (state .arrivals) → sense ≡ senseAfter (e .write) (state .sense) → place ≡ placeOf (e .write) p
     → there ≡ taskAfter (e .write) (getD (set (state .tasks) p (e .task)) place zeroTask)
     → record {
@@ -178,49 +251,95 @@ pub stored-is : (state : State) (p : ℕ) (e : Effect) (arrivals sense place : �
       arrivals = arrivals;
       sense = sense;
       parents = state .parents;
+      moves = tallied (state .moves) p byte;
+      waits = tallied (state .waits) p (1 - byte);
       tasks = set (set (state .tasks) p (e .task)) place there;
     }
-    ≡ stored state p e
-stored-is state p e arrivals sense place there ea es ep et = rw (et, ep, ea, es)
+    ≡ stored state p e how
+stored-is state p e how byte arrivals sense place there eb ea es ep et = rw (eb, wait-number how, et, ep, ea, es)
 
-stored-move : (w : Write) (s : State) (p : ℕ) (u : Task) → written w (withTask s p u) ≡ stored s p (moves u w)
-stored-move Nothing s p u = ap (withTasks s) (sym (set-getD (set (s .tasks) p u) p zeroTask))
-stored-move (Arrivals x) s p u = ap (λ (ts : List Task). withArrivals (withTasks s ts) x) (sym (set-getD (set (s .tasks) p u) p zeroTask))
-stored-move (Sense x) s p u = ap (λ (ts : List Task). withSense (withTasks s ts) x) (sym (set-getD (set (s .tasks) p u) p zeroTask))
-stored-move (Toggle q x) s p u = refl
-stored-move (Flag q x) s p u = refl
+-- a tally that is raised by 0 stays
+tallied-0 : (l : List ℕ) (p : ℕ) → tallied l p 0 ≡ l
+tallied-0 l p = let same : getD l p 0 + 0 ≡ getD l p 0 = omega arith in ap (set l p) same ∙ set-getD l p 0
 
-pub stored-moved : (s : State) (p : ℕ) (e : Effect) → stored s p e ≡ movedTo s p (e .task) (e .write)
-stored-moved s p e = sym (stored-move (e .write) s p (e .task))
+-- a move stores all but the tallies
+stored-move : (w : Write) (s : State) (p : ℕ) (u : Task) (how : Move)
+    → withWaits (withMoves (written w (withTask s p u)) (tallied (s .moves) p (moveNumber how))) (tallied (s .waits) p (waitNumber how))
+    ≡ stored s p (moves u w) how
+stored-move Nothing s p u how =
+    ap (λ (ts : List Task). withTasks (withWaits (withMoves s (tallied (s .moves) p (moveNumber how))) (tallied (s .waits) p (waitNumber how))) ts)
+    (sym (set-getD (set (s .tasks) p u) p zeroTask))
+stored-move (Arrivals x) s p u how =
+    ap (λ (ts : List Task). withArrivals (withTasks (withWaits (withMoves s (tallied (s .moves) p (moveNumber how))) (tallied (s .waits) p (waitNumber how))) ts) x)
+    (sym (set-getD (set (s .tasks) p u) p zeroTask))
+stored-move (Sense x) s p u how =
+    ap (λ (ts : List Task). withSense (withTasks (withWaits (withMoves s (tallied (s .moves) p (moveNumber how))) (tallied (s .waits) p (waitNumber how))) ts) x)
+    (sym (set-getD (set (s .tasks) p u) p zeroTask))
+stored-move (Toggle q x) s p u how = refl
+stored-move (Flag q x) s p u how = refl
 
--- a wait's effect has the task that stood there, and writes nothing
-stored-stays : (s : State) (p : ℕ) → s ≡ stored s p (waits (taskAt s p))
-stored-stays s p = ap (withTasks s) (sym (set-getD (set (s .tasks) p (taskAt s p)) p zeroTask ∙ set-getD (s .tasks) p zeroTask))
+pub stored-moved : (s : State) (p : ℕ) (e : Effect) (how : Move)
+    → stored s p e how
+    ≡ withWaits (withMoves (movedTo s p (e .task) (e .write)) (tallied (s .moves) p (moveNumber how))) (tallied (s .waits) p (waitNumber how))
+stored-moved s p e how = sym (stored-move (e .write) s p (e .task) how)
 
--- where the effect writes nothing, storing its own task is all
-pub stored-own : (s : State) (p : ℕ) (e : Effect) → writes (e .write) ≡ false → withTask s p (e .task) ≡ stored s p e
-stored-own s p e = go (e .write)
+-- where the effect writes nothing, storing its own task and the tallies is all
+pub stored-own : (s : State) (p : ℕ) (e : Effect) (how : Move) (byte : ℕ) → byte ≡ moveNumber how → writes (e .write) ≡ false
+    → withTask (withWaits (withMoves s (tallied (s .moves) p byte)) (tallied (s .waits) p (1 - byte))) p (e .task) ≡ stored s p e how
+stored-own s p e how byte eb none = rw (eb, wait-number how) (go (e .write) none)
   where
-    go : (w : Write) → writes w ≡ false → withTask s p (e .task) ≡ stored s p (record { act = e .act; task = e .task; write = w })
-    go Nothing none = stored-move Nothing s p (e .task)
+    go : (w : Write) → writes w ≡ false
+        → withTask (withWaits (withMoves s (tallied (s .moves) p (moveNumber how))) (tallied (s .waits) p (waitNumber how))) p (e .task)
+        ≡ stored s p (record { act = e .act; task = e .task; write = w }) how
+    go Nothing none = stored-move Nothing s p (e .task) how
     go (Arrivals x) none = absurd (true≢false none)
     go (Sense x) none = absurd (true≢false none)
     go (Toggle q x) none = absurd (true≢false none)
     go (Flag q x) none = absurd (true≢false none)
 
+-- writing leaves the tallies
+pub written-moves : (w : Write) (s : State) (p : ℕ) (t : Task) → written w (withTask s p t) .moves ≡ s .moves
+written-moves Nothing s p t = refl
+written-moves (Arrivals x) s p t = refl
+written-moves (Sense x) s p t = refl
+written-moves (Toggle q x) s p t = refl
+written-moves (Flag q x) s p t = refl
+
+pub written-waits : (w : Write) (s : State) (p : ℕ) (t : Task) → written w (withTask s p t) .waits ≡ s .waits
+written-waits Nothing s p t = refl
+written-waits (Arrivals x) s p t = refl
+written-waits (Sense x) s p t = refl
+written-waits (Toggle q x) s p t = refl
+written-waits (Flag q x) s p t = refl
+
+-- what the outcome of a turn that is made leaves: all that its effect has, stored. A wait's effect has the task that stood there, and writes
+-- nothing.
+applied-stored : (s : State) (p : ℕ) (e : Effect) → Does (sharedOf s) (taskAt s p) e → (how : Move) → e .act ≡ actOf how
+    → applied (Made how) s p (e .task) (e .write) ≡ stored s p e how
+applied-stored s p e d (Moved c) act =
+    ap (λ (l : List ℕ). withMoves moved (tallied l p 1)) (written-moves (e .write) s p (e .task))
+    ∙ ap (withWaits (withMoves moved (tallied (s .moves) p 1))) (written-waits (e .write) s p (e .task) ∙ sym (tallied-0 (s .waits) p))
+    ∙ sym (stored-moved s p e (Moved c))
+  where
+    moved : State
+    moved = movedTo s p (e .task) (e .write)
+applied-stored s p _ (keeps c) Waited act = let z : _≡_ {A = ℕ} 0 1 = cc in absurd (omega arith)
+applied-stored s p _ (raises l c) Waited act = let z : _≡_ {A = ℕ} 0 1 = cc in absurd (omega arith)
+applied-stored s p _ stays Waited act =
+    ap (λ (l : List ℕ). withMoves (waitTallied s p) l) (sym (tallied-0 (s .moves) p))
+    ∙ ap (λ (ts : List Task). withTasks (withWaits (withMoves s (tallied (s .moves) p 0)) (tallied (s .waits) p 1)) ts)
+    (sym (set-getD (set (s .tasks) p (taskAt s p)) p zeroTask ∙ set-getD (s .tasks) p zeroTask))
+applied-stored s p _ (refused-7 k) Waited act = let z : _≡_ {A = ℕ} 0 1 = cc in absurd (omega arith)
+applied-stored s p _ (refused-11 l) Waited act = let z : _≡_ {A = ℕ} 0 1 = cc in absurd (omega arith)
+
 -- a turn that is made stores all that its effect has
 pub step-made : (s : State) (p : ℕ) (how : Move) → answerOf s p (effectOf s p) ≡ Made how
-    → stepOf s p ≡ record { state = stored s p (effectOf s p); outcome = answerOf s p (effectOf s p) }
+    → stepOf s p ≡ record { state = stored s p (effectOf s p) how; outcome = Made how }
 unfolding stepOf
 step-made s p how made =
-    ap (λ (x : State). record { state = x; outcome = answerOf s p (effectOf s p) }) (go (effectOf s p) (effect-does s p) made)
-  where
-    go : (e : Effect) → Does (sharedOf s) (taskAt s p) e → answerOf s p e ≡ Made how → applied (answerOf s p e) s p (e .task) (e .write) ≡ stored s p e
-    go _ (keeps {u} {w} c) m = stored-move w s p u
-    go _ (raises {u} {w} l c) m = stored-move w s p u
-    go _ stays m = stored-stays s p
-    go _ (refused-7 k) m = let z : _≡_ {A = ℕ} 0 1 = cc in absurd (omega arith)
-    go _ (refused-11 l) m = let z : _≡_ {A = ℕ} 0 1 = cc in absurd (omega arith)
+    ap (λ (o : Outcome). record { state = applied o s p (effectOf s p .task) (effectOf s p .write); outcome = o }) made
+    ∙ ap (λ (x : State). record { state = x; outcome = Made how })
+    (applied-stored s p (effectOf s p) (effect-does s p) how (made-by (effectOf s p .act) _ (movesAt s p) (waitsAt s p) how made .0))
 
 -- a turn that is refused leaves the state
 pub step-refused : (s : State) (p k : ℕ) → answerOf s p (effectOf s p) ≡ Refused k → stepOf s p ≡ refusedTurn s k
@@ -229,8 +348,8 @@ step-refused s p k e = rw e
 
 -- the two for a turn: what it is, by its line's outcome
 module _ (s : State) (p : ℕ) (ok : Valid s) (h : p < s .n) where
-  pub turn-made : (how : Move) → answerOf s p (effectOf s p) ≡ Made how → turnOf s p ≡ record { state = stored s p (effectOf s p); outcome = Made how }
-  turn-made how e = turn-step s p ok h ∙ step-made s p how e ∙ ap (λ (o : Outcome). record { state = stored s p (effectOf s p); outcome = o }) e
+  pub turn-made : (how : Move) → answerOf s p (effectOf s p) ≡ Made how → turnOf s p ≡ record { state = stored s p (effectOf s p) how; outcome = Made how }
+  turn-made how e = turn-step s p ok h ∙ step-made s p how e
 
   pub turn-refused : (k : ℕ) → answerOf s p (effectOf s p) ≡ Refused k → turnOf s p ≡ refusedTurn s k
   turn-refused k e = turn-step s p ok h ∙ step-refused s p k e
@@ -244,10 +363,8 @@ pub record Constants (s s′ : State) : Type 0 where
   pub modulus : s′ .modulus ≡ s .modulus
   pub parents : s′ .parents ≡ s .parents
 
-constants-refl : (s : State) → Constants s s
-constants-refl s = record { kind = refl; n = refl; modulus = refl; parents = refl }
-
-constants-written : (w : Write) (s : State) (p : ℕ) (t : Task) → Constants s (written w (withTask s p t))
+-- what a move writes
+pub constants-written : (w : Write) (s : State) (p : ℕ) (t : Task) → Constants s (written w (withTask s p t))
 constants-written Nothing s p t = record { kind = refl; n = refl; modulus = refl; parents = refl }
 constants-written (Arrivals x) s p t = record { kind = refl; n = refl; modulus = refl; parents = refl }
 constants-written (Sense x) s p t = record { kind = refl; n = refl; modulus = refl; parents = refl }
@@ -259,14 +376,14 @@ pub moved-n : (s : State) (p : ℕ) (t : Task) (w : Write) → movedTo s p t w .
 moved-n s p t w = constants-written w s p t .n
 
 constants-applied : (o : Outcome) (s : State) (p : ℕ) (t : Task) (w : Write) → Constants s (applied o s p t w)
-constants-applied (Made (Moved c)) s p t w = constants-written w s p t
-constants-applied (Made Waited) s p t w = constants-refl s
-constants-applied (Refused k) s p t w = constants-refl s
+constants-applied (Made (Moved c)) s p t w =
+    let k = constants-written w s p t in
+    record { kind = k .kind; n = k .n; modulus = k .modulus; parents = k .parents }
+constants-applied (Made Waited) s p t w = record { kind = refl; n = refl; modulus = refl; parents = refl }
+constants-applied (Refused k) s p t w = record { kind = refl; n = refl; modulus = refl; parents = refl }
 
 pub turn-constants : (s : State) (p : ℕ) → Constants s (turnOf s p .state)
-turn-constants s p =
-    by-turn (λ r. Constants s (r .state)) s p (λ k. constants-refl s)
-    (λ ok h. rw (step-state s p) (constants-applied (answerOf s p (effectOf s p)) s p (effectOf s p .task) (effectOf s p .write)))
+turn-constants s p = rw (turn-applied s p) (constants-applied (turnOf s p .outcome) s p (effectOf s p .task) (effectOf s p .write))
 
 -- ---- the tasks after a store
 
@@ -318,8 +435,7 @@ start-applied (Refused k) s p q t w e = refl
 pub turn-start : (s : State) (p q : ℕ) → taskAt (turnOf s p .state) q .start ≡ taskAt s q .start
 unfolding effectOf
 turn-start s p q =
-    by-turn (λ r. taskAt (r .state) q .start ≡ taskAt s q .start) s p (λ k. refl)
-    (λ ok h. rw (step-state s p) (start-applied (answerOf s p (effectOf s p)) s p q (effectOf s p .task) (effectOf s p .write) kept))
+    rw (turn-applied s p) (start-applied (turnOf s p .outcome) s p q (effectOf s p .task) (effectOf s p .write) kept)
   where
     kept : effectOf s p .task .start ≡ taskAt s p .start
     kept = start-kept (sharedOf s) (tableOf s) p (taskAt s p) (taskAt s (taskAt s p .looked)) .start

@@ -9,7 +9,8 @@ ghost use Rattle.machine.specs.Range.{Valid};
 ghost use Rattle.machine.specs.Ready as defs;
 
 impl State {
-    // The least task that can move, of a state in range. Whether it would close a round is not asked.
+    // The least task that can move, of a state in range: one whose tally of moves is at its limit can't. Whether it would close a round is not
+    // asked.
     fn able(self) -> Ready
         requires { ⌜ Valid self ⌝ }
         ensures { λ r. ⌜ r ≡ defs.readyFrom self (self .n) 0 ⌝ }
@@ -19,7 +20,9 @@ impl State {
         while q < n {
             let effect = self.effect(q);
             let act = effect.act;
-            if turn::is_moved(Outcome::of(act, 0)) {
+            let moves = self.moves[q];
+            let waits = self.waits[q];
+            if turn::is_moved(Outcome::of(act, 0, moves, waits)) {
                 return Ready::Task(q);
             }
             q += 1;

@@ -138,6 +138,8 @@ fn zero_state() -> State
         arrivals: 0,
         sense: 0,
         parents,
+        moves: [0; 64],
+        waits: [0; 64],
         tasks,
     }
 }
@@ -181,6 +183,8 @@ impl Setup {
             arrivals: 0,
             sense: fresh_sense(self.kind),
             parents: table,
+            moves: [0; 64],
+            waits: [0; 64],
             tasks,
         };
         Fresh { state, reason: 0 }

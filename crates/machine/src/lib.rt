@@ -9,8 +9,11 @@ mod turn;
 
 use lines::Task;
 
-// A barrier: its kind, its n tasks, the words that they share, and for a tree the table of parents. Tasks and parents
-// from n on are 0.
+// The most that a tally can be.
+pub const MAX_TALLY: u32 = 4_000_000_000;
+
+// A barrier: its kind, its n tasks, the words that they share, for a tree the table of parents, and how often each task has moved and waited
+// since the fresh state. Tasks, parents and tallies from n on are 0.
 pub struct State {
     pub kind: u8,
     pub n: u8,
@@ -18,6 +21,8 @@ pub struct State {
     pub arrivals: u8,
     pub sense: u8,
     pub parents: [u8; 64],
+    pub moves: [u32; 64],
+    pub waits: [u32; 64],
     pub tasks: [Task; 64],
 }
 

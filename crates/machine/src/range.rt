@@ -1,4 +1,5 @@
 // The range of a state. specs/Range.antt defines each.
+use crate::MAX_TALLY;
 use crate::State;
 use lines::MAX_COUNT;
 use lines::Task;
@@ -70,6 +71,17 @@ fn task_zero(task: Task) -> bool
         & (task.toggle == 0)
         & (task.flag == 0)
         & (task.start == 0)
+}
+
+// Whether a tally of task q is as it must be: at most its limit below n, and 0 from n on.
+fn tally_ok(n: usize, q: usize, tally: u32) -> bool
+    ensures { λ r. ⌜ r ≡ defs.tallyOk n q tally ⌝ }
+{
+    if q < n {
+        tally <= MAX_TALLY
+    } else {
+        tally == 0
+    }
 }
 
 // Whether every entry of a table is below the bound.
@@ -144,15 +156,17 @@ impl State {
         }
     }
 
-    // Whether all 64 tasks are as they must be.
+    // Whether all 64 tasks and their tallies are as they must be.
     fn tasks_ok(self) -> bool
         ensures { λ r. ⌜ r ≡ defs.tasksOk self 64 ⌝ }
     {
+        let n = self.n as usize;
         let mut ok = true;
         let mut q = 0;
         while q < 64 {
             let task = self.tasks[q];
-            ok = ok & self.place_ok(q, task);
+            let tallies = tally_ok(n, q, self.moves[q]) & tally_ok(n, q, self.waits[q]);
+            ok = ok & (self.place_ok(q, task) & tallies);
             q += 1;
         }
         ok

@@ -1,4 +1,5 @@
 // A turn: what its line does to the state, and the refusals. specs/Turn.antt defines each.
+use crate::MAX_TALLY;
 use crate::Move;
 use crate::Outcome;
 use crate::State;
@@ -25,14 +26,39 @@ pub(crate) fn is_moved(outcome: Outcome) -> bool
     }
 }
 
+impl Move {
+    // The number of what a turn did: 1 moved, 0 waited.
+    pub fn number(self) -> u8
+        ensures { λ r. ⌜ r ≡ defs.moveNumber self ⌝ }
+    {
+        match self {
+            Move::Moved(_) => 1,
+            Move::Waited => 0,
+        }
+    }
+}
+
 impl Outcome {
-    // What a turn answers, by its line's own outcome, and whether a move closes a round.
-    pub fn of(act: Act, closed: u8) -> Outcome
-        ensures { λ r. ⌜ r ≡ defs.outcomeOf act closed ⌝ }
+    // What a turn answers, by its line's own outcome, whether a move closes a round, and its task's tallies of moves and of waits: the one that
+    // the turn would raise must be below its limit.
+    pub fn of(act: Act, closed: u8, moves: u32, waits: u32) -> Outcome
+        ensures { λ r. ⌜ r ≡ defs.outcomeOf act closed moves waits ⌝ }
     {
         match act {
-            Act::Moves => Outcome::Made(Move::Moved(closed)),
-            Act::Waits => Outcome::Made(Move::Waited),
+            Act::Moves => {
+                if moves < MAX_TALLY {
+                    Outcome::Made(Move::Moved(closed))
+                } else {
+                    Outcome::Refused(13)
+                }
+            }
+            Act::Waits => {
+                if waits < MAX_TALLY {
+                    Outcome::Made(Move::Waited)
+                } else {
+                    Outcome::Refused(13)
+                }
+            }
             Act::Refuses(reason) => Outcome::Refused(reason),
         }
     }
@@ -61,7 +87,7 @@ impl State {
     }
 
     // One line of a known task, in a state in range. All that the effect has is stored, whether it moves or waits: where it waits, that is
-    // what stood there.
+    // what stood there. Both tallies are stored too: a move adds 1 and 0 to them, a wait 0 and 1.
     fn step(mut self, task: usize) -> Turned
         requires { ⌜ Valid self ⌝ }
         requires { ⌜ task < self .n ⌝ }
@@ -71,14 +97,19 @@ impl State {
         let act = effect.act;
         let next = effect.task;
         let closed = self.closes(task, next.count);
-        let outcome = Outcome::of(act, closed);
-        let Outcome::Made(_) = outcome else {
+        let moves = self.moves[task];
+        let waits = self.waits[task];
+        let outcome = Outcome::of(act, closed, moves, waits);
+        let Outcome::Made(how) = outcome else {
             return Turned {
                 state: self,
                 outcome,
             };
         };
+        let moved = how.number();
         let write = effect.write;
+        self.moves[task] = moves + moved as u32;
+        self.waits[task] = waits + (1 - moved) as u32;
         self.tasks[task] = next;
         self.arrivals = write.arrivals(self.arrivals);
         self.sense = write.sense(self.sense);

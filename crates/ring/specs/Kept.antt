@@ -13,11 +13,10 @@ use Rattle.lines.specs.Ring.{nz, nextTask}
 use Rattle.machine.specs.declared.State.{State}
 use Rattle.machine.specs.Setters.{taskAt, withTask}
 use Rattle.machine.specs.Fresh.{Inputs, freshReason, freshTask, freshState}
-use Rattle.machine.specs.Turn.{written, turnOf}
+use Rattle.machine.specs.Turn.{written}
 use Rattle.machine.specs.FreshLaws.{accepted-inputs, fresh-at}
 use Rattle.barrier.specs.View.{viewOf}
-use Rattle.barrier.specs.Barrier.{Able, Holds}
-use Rattle.barrier.specs.Moves.{moved-state}
+use Rattle.barrier.specs.Barrier.{Able, moved, Holds}
 use Rattle.barrier.specs.Puts.{at-task, stored}
 use Rattle.ring.specs.Invariant.{Seen, Inv}
 use Rattle.ring.specs.Lines.{by-line}
@@ -103,8 +102,7 @@ module _ (s : State) (p : ℕ) (i : Holds 2 Inv s) (h : p < s .n) where
 
 -- ---- the law
 
-pub keeps : (s : State) (p : ℕ) → Holds 2 Inv s → Able s p → Inv (viewOf (turnOf s p .state))
+pub keeps : (s : State) (p : ℕ) → Holds 2 Inv s → Able s p → Inv (viewOf (moved s p))
 keeps s p i a =
-    rw (moved-state s p (i .valid) a)
-    (by-line (After s p) s p (i .kind) a
-    (line-11 s p i (a .0)) (line-12 s p i (a .0)) (line-13 s p i (a .0)) (line-14 s p i (a .0)) (line-15 s p i (a .0)))
+    by-line (After s p) s p (i .kind) a
+    (line-11 s p i (a .0)) (line-12 s p i (a .0)) (line-13 s p i (a .0)) (line-14 s p i (a .0)) (line-15 s p i (a .0))

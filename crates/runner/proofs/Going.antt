@@ -1,5 +1,5 @@
--- The loop of a run, after i turns that nothing stopped: the state, the tallies and the log are those of the trace so far, and the counts and
--- the least of them are the state's.
+-- The loop of a run, after i turns that nothing stopped: the state and the log are those of the trace so far, and the counts and the least of them
+-- are the state's.
 use mathlib.Core.Path.{_≡_, refl, sym, ap, _∙_, subst}
 use mathlib.Core.Bool.{true}
 use mathlib.Core.List.{List, [], _∷_, _++_, append-nil, append-assoc}
@@ -7,9 +7,8 @@ use Prim.Native.Nat.{ℕ, suc, _+_, _-_, _*_, _≤_, _<_}
 use native.Mathlib.Decide.{ℕ-discrete}
 use native.Mathlib.Numerals.{add-one}
 use native.Mathlib.Omega.{arith}
-use lib.ListN.{length, getD, take, drop, set, replicate, length-append, length-drop, length-set}
+use lib.ListN.{length, getD, take, drop, set, length-append, length-drop, length-set}
 use lib.Seq.{getD-take, length-take-le, getD-set-same, getD-set-other, take-suc, take-at, drop-at, take-length, drop-length, drop-drop, take-add, drop-cons}
-use borrow.Author.Tests.{eq-eqb, ne-eqb}
 use borrow.Rule.Slice.PartMut.{putMid}
 use Rattle.lines.specs.declared.Effect.{Effect}
 use Rattle.lines.specs.Rule.{effectFrom}
@@ -19,29 +18,32 @@ use Rattle.counts.specs.Counts.{lowest, leastOf, closesOf}
 use Rattle.counts.specs.CountsLaws.{KeptOrRaised, least-same}
 use Rattle.machine.specs.declared.State.{State}
 use Rattle.machine.specs.declared.Move.{Move}
-use Rattle.machine.specs.declared.Move.the-variants.{Moved, Waited}
 use Rattle.machine.specs.declared.Turned.{Turned}
 use Rattle.machine.specs.declared.Outcome.the-variants.{Made, Refused}
-use Rattle.machine.specs.Setters.{taskAt}
+use Rattle.machine.specs.Setters.{taskAt, movesAt, waitsAt}
+use Rattle.machine.specs.Tally.{maxTally}
+use Rattle.machine.specs.TallyLaws.{moves-limit, waits-limit}
 use Rattle.machine.specs.Range.{Valid, tableOf}
 use Rattle.machine.specs.Least.{countOf, countsOf, closedBy}
 use Rattle.machine.specs.Least as count
 use Rattle.machine.specs.LeastLaws.{least-is}
-use Rattle.machine.specs.RoundLaws.{lent-there, kept-or-raised, closed-is, own-made, other-made}
+use Rattle.machine.specs.CountLaws.{kept-or-raised}
+use Rattle.machine.specs.RoundLaws.{lent-there, closed-is, own-made, other-made}
 use Rattle.machine.specs.Turn.{sharedOf, effectOf, outcomeOf, movedTo, answerOf, turnOf, moveNumber}
 use Rattle.machine.specs.TurnLaws.{effect-rule, stored, turn-made, turn-refused, turn-constants}
 use Rattle.machine.specs.KeepLaws.{turn-valid, looked-known, place-known}
 use Rattle.machine.specs.RangeLaws.{range}
 use Rattle.bitset.specs.Table.{table}
-use Rattle.bitset.specs.TableLaws.{table-at, table-set, table-same-value}
+use Rattle.bitset.specs.TableLaws.{table-at, table-same}
 use Rattle.schedule.specs.Passes.{allTasks}
 use Rattle.schedule.specs.PassesLaws.{all-known}
 use Rattle.runner.specs.Trace.{Row, Trace, nothing, refusal, traceOf}
 use Rattle.runner.specs.TraceLaws.{trace-made, trace-stopped}
-use Rattle.runner.specs.RunLaws.{tally-more, tally-few, length-log, log-more, trace-rounds}
+use Rattle.runner.specs.RunLaws.{length-log, log-more, trace-rounds, trace-tallies}
 use Rattle.runner.specs.declared.Ending.{Ending}
 use Rattle.runner.specs.declared.Ending.the-variants.{Stopped}
-use Rattle.runner.specs.Run.{ranOf, tallyIn, movesIn, waitsIn, waitNumber, roundsIn, logOf, loggedOf}
+use Rattle.runner.specs.Rise.{NoLess, riseOf}
+use Rattle.runner.specs.Run.{ranOf, movesIn, waitsIn, roundsIn, logOf, loggedOf}
 
 -- the counts of the n tasks of a state, in a list
 pub record Mirrors (n : ℕ) (counts : List ℕ) (state : State) : Type 0 where
@@ -56,8 +58,6 @@ mirrors-least {n} {counts} {state} k some =
 
 -- what the loop carries besides the state
 pub record Held : Type 0 where
-  pub moves : List ℕ
-  pub waits : List ℕ
   pub counts : List ℕ
   pub least : Least
 
@@ -65,8 +65,6 @@ pub record Going (s : State) (schedule log₀ : List ℕ) (i : ℕ) (state : Sta
   pub on : traceOf s (take i schedule) .stop ≡ nothing
   pub here : traceOf s (take i schedule) .state ≡ state
   pub many : length (traceOf s (take i schedule) .made) ≡ i
-  pub moved : held .moves ≡ table 64 (movesIn (traceOf s (take i schedule) .made))
-  pub waited : held .waits ≡ table 64 (waitsIn (traceOf s (take i schedule) .made))
   pub logged : log ≡ loggedOf (traceOf s (take i schedule)) log₀
   pub valid : Valid state
   pub tasks : state .n ≡ s .n
@@ -86,16 +84,13 @@ mirrors-lent s counts ok lent =
 -- before the first turn
 pub going-none : (s : State) (schedule log₀ counts : List ℕ) (least : Least) → Valid s → counts ≡ take (s .n) (countsOf s)
     → least ≡ leastOf (λ q. getD counts q 0) (length counts)
-    → Going s schedule log₀ 0 s (record { moves = replicate 64 0; waits = replicate 64 0; counts = counts; least = least }) log₀
-unfolding traceOf tallyIn logOf
+    → Going s schedule log₀ 0 s (record { counts = counts; least = least }) log₀
+unfolding traceOf logOf
 going-none s schedule log₀ counts least ok lent e =
-    let none : replicate {A = ℕ} 64 0 ≡ table 64 (λ q. 0) = sym (table-same-value 64 0) in
     record {
       on = refl;
       here = refl;
       many = refl;
-      moved = none;
-      waited = none;
       logged = refl;
       valid = ok;
       tasks = refl;
@@ -123,30 +118,6 @@ rowed before tail k x y long two =
     go (a ∷ []) h = absurd (omega arith)
     go (a ∷ b ∷ l) h = ap (λ (r : List ℕ). x ∷ y ∷ r) (append-nil l)
 
--- one more in a tally
-tallied : (weight : Move → ℕ) (rs : List Row) (r : Row) → r .task < 64
-    → set (table 64 (tallyIn weight rs)) (r .task) (getD (table 64 (tallyIn weight rs)) (r .task) 0 + weight (r .how)) ≡ table 64 (tallyIn weight (rs ++ r ∷ []))
-tallied weight rs r h =
-    ap (set (table 64 (tallyIn weight rs)) (r .task)) (own (r .task) refl)
-    ∙ table-set 64 (tallyIn weight rs) (tallyIn weight (rs ++ r ∷ [])) (r .task) h
-    (λ q ne. tally-more weight rs r q ∙ rw (ne-eqb (r .task) q (λ e. ne (sym e))) (omega arith))
-  where
-    own : (p : ℕ) → p ≡ r .task → getD (table 64 (tallyIn weight rs)) p 0 + weight (r .how) ≡ tallyIn weight (rs ++ r ∷ []) p
-    own p e =
-        rw (tally-more weight rs r p, eq-eqb (r .task) p (sym e), table-at 64 (tallyIn weight rs) p 0 (rw e h))
-
--- what a turn's byte can be
-move-le : (how : Move) → moveNumber how ≤ 1
-move-le (Moved c) = omega arith
-move-le Waited = omega arith
-
-wait-number : (how : Move) → 1 - moveNumber how ≡ waitNumber how
-wait-number (Moved c) = refl
-wait-number Waited = refl
-
-pub byte-le : (how : Move) (byte : ℕ) → byte ≡ moveNumber how → byte ≤ 1
-byte-le how byte e = omega (arith, move-le how)
-
 module _ {s : State} {schedule log₀ : List ℕ} {i : ℕ} {state : State} {held : Held} {log : List ℕ} (g : Going s schedule log₀ i state held log) where
   -- the trace so far
   abbrev so-far : Trace
@@ -163,23 +134,18 @@ module _ {s : State} {schedule log₀ : List ℕ} {i : ℕ} {state : State} {hel
   pub counts-long : (counts₀ : List ℕ) → Valid s → counts₀ ≡ take (s .n) (countsOf s) → length (held .counts) ≡ length counts₀
   counts-long counts₀ ok lent = g .mirrors .long ∙ sym (mirrors-lent s counts₀ ok lent .long)
 
-  -- no tally is more than the turns so far
-  tally-room : (weight : Move → ℕ) → ((how : Move) → weight how ≤ 1) → (tallies : List ℕ) (p : ℕ)
-      → tallies ≡ table 64 (tallyIn weight (so-far .made)) → p < 64 → getD tallies p 0 ≤ i
-  tally-room weight light tallies p e h =
-      omega (
-        arith,
-        ap (λ (l : List ℕ). getD l p 0) e,
-        table-at 64 (tallyIn weight (so-far .made)) p 0 h,
-        tally-few weight light (so-far .made) p,
-        g .many,
-      )
+  -- no tally has fallen, and how far they have risen
+  tallies : (q : ℕ) → (movesAt state q ≡ movesAt s q + movesIn (so-far .made) q) × (waitsAt state q ≡ waitsAt s q + waitsIn (so-far .made) q)
+  tallies q = rw (g .here) at (trace-tallies s (take i schedule) q)
 
-  pub moves-room : (p : ℕ) → p < 64 → getD (held .moves) p 0 ≤ i
-  moves-room p h = tally-room moveNumber move-le (held .moves) p (g .moved) h
+  pub no-less : NoLess (s .moves) (state .moves) × NoLess (s .waits) (state .waits)
+  no-less = (λ q h. omega (arith, tallies q .0), λ q h. omega (arith, tallies q .1))
 
-  pub waits-room : (p : ℕ) → p < 64 → getD (held .waits) p 0 ≤ i
-  waits-room p h = tally-room waitNumber (λ how. omega (arith, wait-number how)) (held .waits) p (g .waited) h
+  moves-now : riseOf (s .moves) (state .moves) ≡ table 64 (movesIn (so-far .made))
+  moves-now = table-same 64 (λ q. movesAt state q - movesAt s q) (movesIn (so-far .made)) (λ q h. omega (arith, tallies q .0))
+
+  waits-now : riseOf (s .waits) (state .waits) ≡ table 64 (waitsIn (so-far .made))
+  waits-now = table-same 64 (λ q. waitsAt state q - waitsAt s q) (waitsIn (so-far .made)) (λ q h. omega (arith, tallies q .1))
 
   -- the least count now, and the rounds closed since the first turn
   now-least : held .least .count ≡ count.least s + roundsIn (so-far .made)
@@ -195,10 +161,10 @@ module _ {s : State} {schedule log₀ : List ℕ} {i : ℕ} {state : State} {hel
 
   -- what the run answers where no turn is refused
   pub finished : (end : Ending) (before turns : ℕ) → before ≡ count.least s → i ≡ turns
-      → (record { state = state; ending = end; turns = turns; rounds = held .least .count - before; moves = held .moves; waits = held .waits }
+      → (record { state = state; ending = end; turns = turns; rounds = held .least .count - before; moves = riseOf (s .moves) (state .moves); waits = riseOf (s .waits) (state .waits) }
       ≡ ranOf (traceOf s (take turns schedule)) end)
       × (log ≡ loggedOf (traceOf s (take turns schedule)) log₀)
-  finished end before turns e all = rw (← all) (rw (g .on, g .here, g .many, rounds-now before e, ← g .moved, ← g .waited), g .logged)
+  finished end before turns e all = rw (← all) (rw (g .on, g .here, g .many, rounds-now before e, moves-now, waits-now), g .logged)
 
   -- what a task does, by the table of the first state
   pub effect-is : (parents : List ℕ) → parents ≡ tableOf s → (p : ℕ) (e : Effect)
@@ -229,6 +195,13 @@ module _ {s : State} {schedule log₀ : List ℕ} {i : ℕ} {state : State} {hel
   pub own-there : p < 64
   own-there = omega (arith, known, range state (g .valid) .few)
 
+  -- its tallies have room for one more
+  pub moves-room : movesAt state p ≤ maxTally
+  moves-room = moves-limit state p (g .valid) known
+
+  pub waits-room : waitsAt state p ≤ maxTally
+  waits-room = waits-limit state p (g .valid) known
+
   pub seen-there : taskAt state p .looked < 64
   seen-there = omega (arith, looked-known state p (g .valid) known, range state (g .valid) .few)
 
@@ -244,9 +217,10 @@ module _ {s : State} {schedule log₀ : List ℕ} {i : ℕ} {state : State} {hel
 
   module _ (e : Effect) (does : e ≡ effectOf state p) where
     -- what the turn answers, by whether it closes a round
-    pub answer-is : (closed : ℕ) → closed ≡ closesOf (held .least) (taskAt state p .count) (e .task .count) → outcomeOf (e .act) closed ≡ answerOf state p e
+    pub answer-is : (closed : ℕ) → closed ≡ closesOf (held .least) (taskAt state p .count) (e .task .count)
+        → outcomeOf (e .act) closed (movesAt state p) (waitsAt state p) ≡ answerOf state p e
     answer-is closed c =
-        ap (outcomeOf (e .act))
+        ap (λ (x : ℕ). outcomeOf (e .act) x (movesAt state p) (waitsAt state p))
         (c ∙ ap (λ (l : Least). closesOf l (countOf state p) (e .task .count)) (g .lowest ∙ ap (leastOf (countOf state)) (sym (g .tasks)))
         ∙ subst (λ (x : Effect). closesOf (leastOf (countOf state) (state .n)) (countOf state p) (x .task .count) ≡ closedBy state (movedTo state p (x .task) (x .write)))
         (sym does) (closed-is state p (g .valid) known))
@@ -261,11 +235,11 @@ module _ {s : State} {schedule log₀ : List ℕ} {i : ℕ} {state : State} {hel
 
     -- what the run answers where it is refused
     pub stopped : (end : Ending) (k reason turns before : ℕ) → answerOf state p e ≡ Refused k → reason ≡ k → i < turns → before ≡ count.least s
-        → (record { state = state; ending = Stopped reason; turns = i; rounds = held .least .count - before; moves = held .moves; waits = held .waits }
+        → (record { state = state; ending = Stopped reason; turns = i; rounds = held .least .count - before; moves = riseOf (s .moves) (state .moves); waits = riseOf (s .waits) (state .waits) }
         ≡ ranOf (traceOf s (take turns schedule)) end)
         × (log ≡ loggedOf (traceOf s (take turns schedule)) log₀)
     stopped end k reason turns before refused q h first =
-        (rw (stop, q, g .many, rounds-now g before first, ← g .moved, ← g .waited), rw stop (g .logged))
+        (rw (stop, q, g .many, rounds-now g before first, moves-now g, waits-now g), rw stop (g .logged))
       where
         us : List ℕ
         us = take (turns - i - 1) (drop (suc i) schedule)
@@ -290,7 +264,7 @@ module _ {s : State} {schedule log₀ : List ℕ} {i : ℕ} {state : State} {hel
       abbrev row : Row
       row = record { task = p; line = taskAt state p .line; how = how }
 
-      turn : turnOf state p ≡ record { state = stored state p e; outcome = Made how }
+      turn : turnOf state p ≡ record { state = stored state p e how; outcome = Made how }
       turn = rw does (turn-made state p (g .valid) known how (rw does at made))
 
       with-one : traceOf s (take (i + 1) schedule) ≡ record { made = rows ++ row ∷ []; state = turnOf state p .state; stop = nothing }
@@ -330,22 +304,18 @@ module _ {s : State} {schedule log₀ : List ℕ} {i : ℕ} {state : State} {hel
           at q h (no ne) =
               getD-set-other (held .counts) p q (e .task .count) 0 ne ∙ g .mirrors .at q h ∙ sym (other-made state p (g .valid) known how answer q ne)
 
-      pub goes-on : (byte : ℕ) (state′ : State) (moves′ waits′ counts′ : List ℕ) (least′ : Least) (tail : List ℕ) → byte ≡ moveNumber how → 2 * i + 2 ≤ length log₀
-          → state′ ≡ stored state p e
-          → moves′ ≡ set (held .moves) p (getD (held .moves) p 0 + byte)
-          → waits′ ≡ set (held .waits) p (getD (held .waits) p 0 + (1 - byte))
+      pub goes-on : (byte : ℕ) (state′ : State) (counts′ : List ℕ) (least′ : Least) (tail : List ℕ) → byte ≡ moveNumber how → 2 * i + 2 ≤ length log₀
+          → state′ ≡ stored state p e how
           → counts′ ≡ set (held .counts) p (e .task .count)
           → least′ ≡ leastOf (λ q. getD counts′ q 0) (length (held .counts))
           → tail ≡ set (set (take (length log - 2 * i) (drop (2 * i) log)) 0 (taskAt state p .line)) 1 byte
-          → Going s schedule log₀ (i + 1) state′ (record { moves = moves′; waits = waits′; counts = counts′; least = least′ }) (putMid (2 * i) (length log - 2 * i) log tail)
-      goes-on byte state′ moves′ waits′ counts′ least′ tail eb room es em ew ec el et =
-          rw (em, ew, et, eb, wait-number how, es, ← ap (λ (r : Turned). r .state) turn)
+          → Going s schedule log₀ (i + 1) state′ (record { counts = counts′; least = least′ }) (putMid (2 * i) (length log - 2 * i) log tail)
+      goes-on byte state′ counts′ least′ tail eb room es ec el et =
+          rw (et, eb, es, ← ap (λ (r : Turned). r .state) turn)
           (record {
             on = ap (λ (t : Trace). t .stop) with-one;
             here = ap (λ (t : Trace). t .state) with-one;
             many = ap (λ (t : Trace). length (t .made)) with-one ∙ omega (arith, length-append rows (row ∷ []), g .many);
-            moved = rw (with-one, g .moved) (tallied moveNumber rows row own-there);
-            waited = rw (with-one, g .waited) (tallied waitNumber rows row own-there);
             logged = rw with-one (logged-more room);
             valid = turn-valid state p (g .valid);
             tasks = turn-constants state p .n ∙ g .tasks;

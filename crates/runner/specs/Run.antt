@@ -7,26 +7,20 @@ use Rattle.bitset.specs.Choice.{pick}
 use Rattle.bitset.specs.Table.{table}
 use Rattle.machine.specs.declared.State.{State}
 use Rattle.machine.specs.declared.Move.{Move}
-use Rattle.machine.specs.declared.Move.the-variants.{Moved, Waited}
 use Rattle.machine.specs.Range.{checkState}
-use Rattle.machine.specs.Turn.{moveNumber, closedNumber}
+use Rattle.machine.specs.Turn.{moveNumber, waitNumber, closedNumber}
 use Rattle.schedule.specs.Passes.{maxTurns, unknownAt, allTasks}
 use Rattle.runner.specs.declared.Ending.{Ending}
 use Rattle.runner.specs.declared.Ending.the-variants.{Done, Spent, Stopped, Refused}
 use Rattle.runner.specs.declared.Ran.{Ran}
 use Rattle.runner.specs.Trace.{Row, Stop, nothing, refusal, Trace, traceOf}
 
--- 1 for a turn that waited, 0 for one that moved
-abbrev pub waitNumber : Move → ℕ
-waitNumber (Moved closed) = 0
-waitNumber Waited = 1
-
 -- the turns made that named task q, each counted as `weight` says
 unfoldable pub tallyIn : (Move → ℕ) → List Row → ℕ → ℕ
 tallyIn weight [] q = 0
 tallyIn weight (r ∷ rs) q = pick (eqb (r .task) q) (weight (r .how)) 0 + tallyIn weight rs q
 
--- "each task's moves and waits"
+-- "each task's moves and waits", of this run
 abbrev pub movesIn : List Row → ℕ → ℕ
 movesIn rs q = tallyIn moveNumber rs q
 
@@ -47,7 +41,7 @@ logOf (r ∷ rs) = r .line ∷ moveNumber (r .how) ∷ logOf rs
 abbrev pub unstopped : ℕ → ℕ → Ending
 unstopped allowance turns = pick (ltb allowance turns) Spent Done
 
--- or the number, 7 or 11, of the turn refused"
+-- or the number, 7 or 11, of the turn refused"; 02, P3: 13 "ends a run as 11 does"
 abbrev pub endingOf : Stop → Ending → Ending
 endingOf nothing end = end
 endingOf (refusal p k) end = Stopped k

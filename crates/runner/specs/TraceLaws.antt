@@ -1,6 +1,6 @@
 -- Laws of traces: what a trace has once more turns follow, what its turns keep, and where a refusal ends it.
 use mathlib.Core.Path.{_≡_, refl, sym, ap, _∙_}
-use mathlib.Core.List.{List, [], _∷_, _++_, append-nil}
+use mathlib.Core.List.{List, [], _∷_, _++_, map, append-nil}
 use Prim.Native.Nat.{ℕ, suc, _≤_, _<_, min}
 use native.Mathlib.Omega.{arith}
 use lib.ListN.{length, take, getD, length-take}
@@ -10,7 +10,7 @@ use Rattle.machine.specs.declared.Outcome.{Outcome}
 use Rattle.machine.specs.declared.Outcome.the-variants.{Made, Refused}
 use Rattle.machine.specs.Setters.{taskAt}
 use Rattle.machine.specs.Turn.{turnOf}
-use Rattle.runner.specs.Trace.{Stop, nothing, refusal, Trace, turned, traceOf}
+use Rattle.runner.specs.Trace.{Row, Stop, nothing, refusal, Trace, turned, traceOf, countedStop}
 
 -- a refusal is a stop
 refusal-stops : (p k : ℕ) → refusal p k ≡ nothing → ⊥
@@ -134,3 +134,23 @@ stopped-at s (q ∷ ts) p k e = go (turnOf s q .outcome) refl e (stopped-at (tur
         let a : q ≡ p = cc in
         let b : j ≡ k = cc in
         record { fewer = omega arith; named = a; refused = rw (← a, ← b) eq }
+
+-- ---- whom the turns made name
+
+-- the turns made are the first of the list, as many as were made
+pub made-tasks : (s : State) (ts : List ℕ) → map (λ (r : Row). r .task) (traceOf s ts .made) ≡ take (length (traceOf s ts .made)) ts
+unfolding traceOf
+made-tasks s [] = refl
+made-tasks s (p ∷ ts) = go (turnOf s p .outcome) (made-tasks (turnOf s p .state) ts)
+  where
+    rest : Trace
+    rest = traceOf (turnOf s p .state) ts
+
+    go : (o : Outcome) → map (λ (r : Row). r .task) (rest .made) ≡ take (length (rest .made)) ts
+        → map (λ (r : Row). r .task) (turned s p o rest .made) ≡ take (length (turned s p o rest .made)) (p ∷ ts)
+    go (Made how) ih = ap (λ (l : List ℕ). p ∷ l) ih
+    go (Refused k) ih = refl
+
+-- 02, P3: "In the progress rule a turn refused 13 isn't counted"
+pub stop-13 : (p : ℕ) → countedStop (refusal p 13) ≡ []
+stop-13 p = refl

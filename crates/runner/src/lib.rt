@@ -3,20 +3,20 @@ mod dispatch;
 
 use counts::Least;
 use lines::Shared;
-use machine::Move;
 use machine::Outcome;
 use machine::State;
 ghost use mathlib.Core.Path.{_≡_};
 ghost use mathlib.Core.Bool.{true};
-ghost use Prim.Native.Nat.{_+_, _*_, _^_, _≤_, _<_, min};
+ghost use Prim.Native.Nat.{_*_, _≤_, _<_, min};
 ghost use lib.ListN.{length, getD, take, set};
 ghost use Rattle.counts.specs.Counts.{leastOf};
 ghost use Rattle.counts.specs.CountsLaws.{KeptOrRaised};
 ghost use Rattle.machine.specs.Range.{Valid, tableOf};
 ghost use Rattle.machine.specs.Least.{countsOf};
-ghost use Rattle.machine.specs.Turn.{moveNumber, reasonNumber};
+ghost use Rattle.machine.specs.Turn.{reasonNumber};
 ghost use Rattle.schedule.specs.Passes.{maxTurns, unknownAt, allTasks};
 ghost use Rattle.runner.specs.Trace.{traceOf};
+ghost use Rattle.runner.specs.Rise.{NoLess, riseOf};
 ghost use Rattle.runner.specs.Run as defs;
 
 // How a run ended: all turns done; the allowance spent, with turns left; a turn refused, with its reason; or the whole run refused, with
@@ -38,16 +38,6 @@ pub struct Ran {
     pub waits: [u32; 64],
 }
 
-// The log's byte for what a turn did: 1 moved, 0 waited.
-fn move_byte(how: Move) -> u8
-    ensures { λ r. ⌜ r ≡ moveNumber how ⌝ }
-{
-    match how {
-        Move::Moved(_) => 1,
-        Move::Waited => 0,
-    }
-}
-
 // The reason of a refused turn.
 fn reason_of(outcome: Outcome) -> u8
     ensures { λ r. ⌜ r ≡ reasonNumber outcome ⌝ }
@@ -67,12 +57,18 @@ fn write_row(tail: &mut [u8], line: u8, moved: u8)
     tail[1] = moved;
 }
 
-// Adds to a task's tally.
-fn tally(all: &mut [u32; 64], task: usize, more: u8)
-    requires { ⌜ (task < 64) × (getD (now all) task 0 + more < 2 ^ 32) ⌝ }
-    ensures { λ _. ⌜ now (all .exit) ≡ set (now (all .entry)) task (getD (now (all .entry)) task 0 + more) ⌝ }
+// How far each tally has risen.
+fn rises(before: [u32; 64], after: [u32; 64]) -> [u32; 64]
+    requires { ⌜ NoLess before after ⌝ }
+    ensures { λ r. ⌜ r ≡ riseOf before after ⌝ }
 {
-    all[task] = all[task] + more as u32;
+    let mut all = [0u32; 64];
+    let mut q = 0;
+    while q < 64 {
+        all[q] = after[q] - before[q];
+        q += 1;
+    }
+    all
 }
 
 // The place of the first turn that is no task; the schedule's length if there is none.
@@ -107,7 +103,7 @@ fn ended(allowance: usize, turns: usize) -> Ending
     }
 }
 
-// The answer of a run that is not refused as a whole.
+// The answer of a run that is not refused as a whole, where the tallies were `moves` and `waits` before it: its own are how far they have risen.
 fn report(
     state: State,
     ending: Ending,
@@ -116,15 +112,18 @@ fn report(
     moves: [u32; 64],
     waits: [u32; 64],
 ) -> Ran
-    ensures { λ r. ⌜ r ≡ record { state = state; ending = ending; turns = turns; rounds = rounds; moves = moves; waits = waits } ⌝ }
+    requires { ⌜ NoLess moves (state .moves) × NoLess waits (state .waits) ⌝ }
+    ensures { λ r. ⌜ r ≡ record { state = state; ending = ending; turns = turns; rounds = rounds; moves = riseOf moves (state .moves); waits = riseOf waits (state .waits) } ⌝ }
 {
+    let all_moves = state.moves;
+    let all_waits = state.waits;
     Ran {
         state,
         ending,
         turns,
         rounds,
-        moves,
-        waits,
+        moves: rises(moves, all_moves),
+        waits: rises(waits, all_waits),
     }
 }
 
@@ -148,7 +147,8 @@ fn store_count(counts: &mut [u32], least: Least, task: usize, next: u32) -> Leas
 // Makes the first `turns` turns of the schedule, from a state in range, whose parents are lent as `table`: each turn's answer is taken apart,
 // moved and waited go on, a refusal ends the run. The state stays where it is: a turn reads two tasks, and stores what its effect has, whether
 // it moves or waits (what waits has the task that stood there). Which word is written is not asked, only whether one is: most lines write none.
-// The counts are kept besides, as `counts`, with the least of them: the rounds closed are how far that has risen.
+// Both tallies are stored too: a move adds 1 and 0 to them, a wait 0 and 1. The counts are kept besides, as `counts`, with the least of them: the
+// rounds closed are how far that has risen.
 fn turns(
     mut state: State,
     table: &[u8],
@@ -167,10 +167,10 @@ fn turns(
     ensures { λ r. ⌜ r ≡ defs.ranOf (traceOf state (take turns (now (schedule .entry)))) end ⌝ }
     ensures { λ _. ⌜ now (log .exit) ≡ defs.loggedOf (traceOf state (take turns (now (schedule .entry)))) (now (log .entry)) ⌝ }
 {
-    let mut moves = [0u32; 64];
-    let mut waits = [0u32; 64];
+    let old_moves = state.moves;
+    let old_waits = state.waits;
     let mut least = counts::least_of(counts);
-    let before = least.count;
+    let old = least.count;
     let mut i = 0;
     while i < turns {
         let task = schedule[i] as usize;
@@ -187,18 +187,20 @@ fn turns(
         let effect = dispatch::effect_of(shared, table, task, own, seen);
         let act = effect.act;
         let next = effect.task;
+        let moves = state.moves[task];
+        let waits = state.waits[task];
         let closed = least.closes(own.count, next.count);
-        let outcome = Outcome::of(act, closed);
+        let outcome = Outcome::of(act, closed, moves, waits);
         let Outcome::Made(how) = outcome else {
             let ending = Ending::Stopped(reason_of(outcome));
-            return report(state, ending, i, least.count - before, moves, waits);
+            return report(state, ending, i, least.count - old, old_moves, old_waits);
         };
-        let moved = move_byte(how);
+        let moved = how.number();
         write_row(&mut log[2 * i..], own.line, moved);
-        tally(&mut moves, task, moved);
-        tally(&mut waits, task, 1 - moved);
         least = store_count(counts, least, task, next.count);
         let write = effect.write;
+        state.moves[task] = moves + moved as u32;
+        state.waits[task] = waits + (1 - moved) as u32;
         state.tasks[task] = next;
         if write.writes() {
             state.arrivals = write.arrivals(state.arrivals);
@@ -209,7 +211,7 @@ fn turns(
         }
         i += 1;
     }
-    report(state, end, turns, least.count - before, moves, waits)
+    report(state, end, turns, least.count - old, old_moves, old_waits)
 }
 
 // The answer of a run that is refused as a whole.

@@ -2,6 +2,8 @@
 pub mod Stretch
 pub mod Passes
 pub mod FirstPass
+pub mod Times
 pub mod StretchLaws
 pub mod PassesLaws
 pub mod FirstPassLaws
+pub mod TimesLaws

@@ -1,10 +1,9 @@
 -- Laws of the whole sheet: it fits the page for every text, and the run of an accepted text ends all done.
-use mathlib.Core.Path.{_≡_, refl, ap, subst}
+use mathlib.Core.Path.{_≡_, refl, subst}
 use mathlib.Core.Bool.{true}
 use mathlib.Core.List.{List, [], _∷_}
 use mathlib.Core.Option.{Option, none, some}
 use Prim.Native.Nat.{ℕ, _≤_}
-use native.Mathlib.Nat.{le-of-eq}
 use native.Mathlib.Omega.{arith}
 use lib.Dec.{eqb, leb}
 use lib.ListN.{length, length-drop}
@@ -12,12 +11,11 @@ use borrow.Author.Tests.{leb-true, eqb-true}
 use Rattle.bitset.specs.ChoiceLaws.{by-test}
 use Rattle.schedule.specs.Passes.{unknownAt, allTasks}
 use Rattle.schedule.specs.PassesLaws.{all-known}
-use Rattle.lines.specs.declared.Task.{Task}
-use Rattle.machine.specs.Fresh.{freshReason, freshState, freshTask}
-use Rattle.machine.specs.FreshLaws.{fresh-at, fresh-valid, fresh-accepted}
+use Rattle.machine.specs.Fresh.{freshReason, freshState}
+use Rattle.machine.specs.FreshLaws.{fresh-valid, fresh-accepted}
 use Rattle.runner.specs.Trace.{nothing}
 use Rattle.guarantee.specs.Calls.{Reached, fresh}
-use Rattle.guarantee.specs.Done.{turns-done}
+use Rattle.guarantee.specs.Done.{fresh-low, turns-done}
 use Rattle.sheet_text.specs.Read.{numbersFrom, maxText, Five, Reading, five, refused, parentCount, fiveOf, readOption, readOf}
 use Rattle.sheet_text.specs.Print.{traceIn, tableOf, printed, sheetOf}
 use Rattle.sheet_text.specs.Steps.{tableFrom}
@@ -62,12 +60,12 @@ accepted text =
     (λ reason place f e. let z : _≡_ {A = ℕ} 0 1 = cc in absurd (omega arith))
     (λ g a f e. let h : g ≡ f = cc in subst Accepted h a)
 
--- the run of an accepted text ends all done: a text of 65,536 bytes has fewer turns than a count can reach
+-- the run of an accepted text ends all done: a text of 65,536 bytes has fewer turns than a count or a tally can reach
 pub all-done : (text : List ℕ) (f : Five) → readOf text ≡ five f → traceIn f .stop ≡ nothing
 all-done text f e =
     rw (fresh-accepted (f .inputs) (a .reason))
     (turns-done (freshState (f .inputs)) (f .schedule) 0 (subst Reached (fresh-accepted (f .inputs) (a .reason)) (fresh (f .inputs) (a .reason)))
-    (λ q h. le-of-eq (ap (λ (t : Task). t .count) (fresh-at (f .inputs .n) q (freshTask (f .inputs)) h)))
+    (fresh-low (f .inputs))
     (omega (arith, a .few)) (all-known (f .inputs .n) (f .schedule) .0 (a .tasks)))
   where
     a : Accepted f

@@ -18,10 +18,9 @@ use Rattle.machine.specs.Setters.{taskAt, withTask}
 use Rattle.machine.specs.Fresh.{Inputs, freshReason, freshState, freshTask}
 use Rattle.machine.specs.FreshLaws.{fresh-at}
 use Rattle.machine.specs.RangeLaws.{InRange, range}
-use Rattle.machine.specs.Turn.{written, turnOf}
+use Rattle.machine.specs.Turn.{written}
 use Rattle.barrier.specs.View.{viewOf}
-use Rattle.barrier.specs.Barrier.{Able, Holds}
-use Rattle.barrier.specs.Moves.{moved-state}
+use Rattle.barrier.specs.Barrier.{Able, moved, Holds}
 use Rattle.barrier.specs.Puts.{Puts, at-task, stored}
 use Rattle.symmetric.specs.Invariant.{Alone, Beside, Inv}
 use Rattle.symmetric.specs.Lines.{by-line}
@@ -139,15 +138,14 @@ module _ (s : State) (i : Holds 0 Inv s) (p : ℕ) (h : p < s .n) where
 
 -- ---- the law
 
-pub keeps : (s : State) (p : ℕ) → Holds 0 Inv s → Able s p → Inv (viewOf (turnOf s p .state))
+pub keeps : (s : State) (p : ℕ) → Holds 0 Inv s → Able s p → Inv (viewOf (moved s p))
 keeps s p i a =
-    rw (moved-state s p (i .valid) a)
-    (by-line Left s p (i .valid) (i .kind) a
+    by-line Left s p (i .valid) (i .kind) a
     (λ l. put (keep-11 s i p (a .0) l))
     (λ l. put (keep-12 s i p (a .0) l))
     (λ l e. put (keep-13-none s i p (a .0) l e))
     (λ k l e. put (keep-13-some s i p (a .0) k l e))
-    (λ l d. put (keep-14 s i p (a .0) l d)))
+    (λ l d. put (keep-14 s i p (a .0) l d))
   where
     -- what is to be shown of a move
     Left : Effect → Type 0

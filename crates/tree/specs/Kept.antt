@@ -13,13 +13,12 @@ use Rattle.machine.specs.declared.State.{State}
 use Rattle.machine.specs.Setters.{taskAt, withTask}
 use Rattle.machine.specs.Fresh.{Inputs, freshReason, freshTask, freshState}
 use Rattle.machine.specs.Range.{tableOf}
-use Rattle.machine.specs.Turn.{written, turnOf}
+use Rattle.machine.specs.Turn.{written}
 use Rattle.machine.specs.TurnLaws.{put-same, put-other}
 use Rattle.machine.specs.RangeLaws.{range, present}
 use Rattle.machine.specs.FreshLaws.{accepted-inputs, fresh-valid, fresh-at}
 use Rattle.barrier.specs.View.{viewOf}
-use Rattle.barrier.specs.Barrier.{Able, Holds}
-use Rattle.barrier.specs.Moves.{moved-state}
+use Rattle.barrier.specs.Barrier.{Able, moved, Holds}
 use Rattle.barrier.specs.Puts.{Puts, stored}
 use Rattle.tree.specs.Invariant.{Standing, Inv}
 use Rattle.tree.specs.TreeRange.{is-tree, list-child}
@@ -44,10 +43,9 @@ fresh i e k =
     at : (q : ℕ) → q < i .n → taskAt (freshState i) q ≡ freshTask i q
     at q h = fresh-at (i .n) q (freshTask i) h
 
-pub keeps : (s : State) (p : ℕ) → Holds 3 Inv s → Able s p → Inv (viewOf (turnOf s p .state))
+pub keeps : (s : State) (p : ℕ) → Holds 3 Inv s → Able s p → Inv (viewOf (moved s p))
 keeps s p i able =
-    rw (moved-state s p (i .valid) able)
-    (by-line (λ e. Inv (viewOf (written (e .write) (withTask s p (e .task))))) s p (i .valid) (i .kind) able
+    by-line (λ e. Inv (viewOf (written (e .write) (withTask s p (e .task))))) s p (i .valid) (i .kind) able
     (λ l. now c (line-11 tree few g p known l))
     (λ l. now c (line-12 tree few g p known l))
     (λ l z. now c (line-13-none tree few g p known l z))
@@ -58,7 +56,7 @@ keeps s p i able =
     (λ l w. now c (line-16 tree few g p known l w))
     (λ l. now c (line-17 tree few g p known l))
     (λ l z. now c (line-18-none tree few g p known l z))
-    clears)
+    clears
   where
     tree : IsTree (tableOf s) (s .n)
     tree = is-tree s (i .valid) (i .kind)

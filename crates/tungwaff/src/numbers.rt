@@ -5,7 +5,7 @@ use machine::Ready;
 use runner::Ending;
 use schedule::answer::Passes;
 ghost use mathlib.Core.Path.{_≡_};
-ghost use Rattle.machine.specs.Turn.{moveNumber, closedNumber, reasonNumber};
+ghost use Rattle.machine.specs.Turn.{closedNumber, reasonNumber};
 ghost use Rattle.machine.specs.Ready.{readyReason, readyNumber};
 ghost use Rattle.runner.specs.Run.{endingReason};
 ghost use Rattle.schedule.specs.Passes.{passesReason};
@@ -45,22 +45,12 @@ pub(crate) fn turn_reason(outcome: Outcome) -> u8
     }
 }
 
-// 1 for a move, 0 for a wait.
-fn move_number(how: Move) -> usize
-    ensures { λ r. ⌜ r ≡ moveNumber how ⌝ }
-{
-    match how {
-        Move::Moved(_) => 1,
-        Move::Waited => 0,
-    }
-}
-
 // 1 if a turn moved, 0 if it waited or was refused.
 pub(crate) fn turn_number(outcome: Outcome) -> usize
     ensures { λ r. ⌜ r ≡ defs.turnNumber outcome ⌝ }
 {
     match outcome {
-        Outcome::Made(how) => move_number(how),
+        Outcome::Made(how) => how.number() as usize,
         Outcome::Refused(_) => 0,
     }
 }

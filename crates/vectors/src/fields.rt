@@ -4,7 +4,7 @@ use crate::print::Output;
 use lines::Task;
 use machine::State;
 
-// A task's fields, each after a space, in the order of their numbers in a change: 0 to 8, and 15.
+// A task's own fields, each after a space, in the order of their numbers in a change: 0 to 8, and 15.
 fn show_task(t: Task, out: &mut Output, at: usize) -> usize {
     let mut k = print::next(t.line as u64, out, at);
     k = print::next(t.count as u64, out, k);
@@ -23,11 +23,14 @@ fn show_parents(state: State, out: &mut Output, at: usize) -> usize {
     print::bytes(&parents, out, at)
 }
 
+// Each task's fields, and after them its tallies of moves and of waits, 16 and 17.
 fn show_tasks(state: State, out: &mut Output, at: usize) -> usize {
     let mut k = at;
     let mut q = 0;
     while q < 64 {
         k = show_task(state.tasks[q], out, k);
+        k = print::next(state.moves[q] as u64, out, k);
+        k = print::next(state.waits[q] as u64, out, k);
         q += 1;
     }
     k
@@ -47,16 +50,16 @@ pub(crate) fn show(state: State, out: &mut Output, at: usize) -> usize {
 // How many tasks have a field of that number; a field of the state itself is at 0.
 fn places(field: u64) -> usize {
     match field {
-        0..=8 | 14 | 15 => 64,
+        0..=8 | 14..=17 => 64,
         9..=13 => 1,
         _ => 0,
     }
 }
 
-// The most that the field's type holds: `count` has 32 bits, `list` 64, any other 8.
+// The most that the field's type holds: `count` and the tallies have 32 bits, `list` 64, any other 8.
 fn most(field: u64) -> u64 {
     match field {
-        1 => 4294967295,
+        1 | 16 | 17 => 4294967295,
         4 => u64::MAX,
         _ => 255,
     }
@@ -90,6 +93,7 @@ fn task_with(mut t: Task, field: u64, value: u64) -> Task {
 // The state with a field changed to a value that it can hold.
 pub(crate) fn with(mut state: State, field: u64, task: usize, value: u64) -> State {
     let byte = (value % 256) as u8;
+    let word = (value % 4294967296) as u32;
     if 64 <= task {
         return state;
     }
@@ -100,6 +104,8 @@ pub(crate) fn with(mut state: State, field: u64, task: usize, value: u64) -> Sta
         12 => state.arrivals = byte,
         13 => state.sense = byte,
         14 => state.parents[task] = byte,
+        16 => state.moves[task] = word,
+        17 => state.waits[task] = word,
         _ => {
             let t = task_with(state.tasks[task], field, value);
             state.tasks[task] = t;

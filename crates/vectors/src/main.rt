@@ -1,9 +1,9 @@
 // Replays requests over the libraries. A line of numbers is a request, and is answered by a line; one state is kept, all zeros at first.
 //
 //     1 KIND N R P..            a fresh state, kept also if refused    0, or refused K
-//     2 TASK                    a turn                                 1 moved, 0 waited, or refused K
+//     2 TASK                    a turn                                 1 C moved (C: 1 if it closed a round, else 0), 0 waited, or refused K
 //     3                         ready                                  task T, none, or refused 7
-//     4 ALLOWANCE LOGLEN T..    a run, with a log of bytes 255         its ending and turns, 64 moves, 64 waits, the log
+//     4 ALLOWANCE LOGLEN T..    a run, with a log of bytes 255         its ending, turns and rounds, 64 moves, 64 waits, the log
 //     5                         the state                              its fields, 64 parents, the fields of 64 tasks
 //     6 FIELD TASK VALUE        changes a field                        ok
 //     7 N LISTLEN T..           passes, to a list of 2^32 - 1          their number or the refusal, the list

@@ -1,11 +1,11 @@
 //! Random damage: fields changed to values in and near their ranges, whole random states in
-//! range, and counts that are spread or near their limit.
+//! range, counts that are spread or near their limit, and tallies near theirs.
 
-use super::fields::{COUNT, LINE};
+use super::fields::{COUNT, FLAG, LINE, MOVES, TOGGLE, WAITS};
 use super::fresh::accepted_fresh;
 use super::steps::{any_run, turn_of_ready, turn_of_someone};
-use super::values::TASK_COUNTS;
-use crate::machine::{counting_line, in_range, State, MAX_COUNT};
+use super::values::{TALLIES, TASK_COUNTS};
+use crate::machine::{counting_line, in_range, State, MAX_COUNT, MAX_TALLY};
 use crate::machine::{FETCH_AND_INCREMENT, RING, SYMMETRIC, TREE};
 use crate::random::Random;
 use crate::recorder::Recorder;
@@ -44,7 +44,7 @@ pub fn damage_for_a_while(recorder: &mut Recorder, random: &mut Random) {
 fn any_change(recorder: &Recorder, random: &mut Random) -> (u64, u64, u64) {
     let state = recorder.state();
     let n = recorder.n().clamp(1, 64);
-    let field = random.below(16);
+    let field = random.below(18);
     let task = match field {
         9..=13 => 0,
         _ if random.once_in(5) => random.length(0, 63),
@@ -72,6 +72,7 @@ fn value_near_range(state: &State, random: &mut Random, field: u64) -> u64 {
         10 => random.pick(&[0, 1, n.saturating_sub(1), n, n + 1, 64, 65]),
         11 => random.pick(&[0, 1, 2, 3, 4, 254, 255, 256]),
         12 => random.pick(&[0, 1, n.saturating_sub(1), n, n + 1]),
+        MOVES | WAITS => random.pick(&TALLIES),
         _ => random.pick(&[0, 1, 2, n, 63, 64, 255, 256]),
     }
 }
@@ -85,6 +86,7 @@ fn value_in_range(state: &State, random: &mut Random, field: u64, task: usize) -
         (0, RING) => 11 + random.below(5),
         (0, _) => 11 + random.below(8),
         (1, _) => random.pick(&COUNTS).min(MAX_COUNT.into()),
+        (MOVES | WAITS, _) => random.pick(&TALLIES).min(MAX_TALLY.into()),
         (2 | 3, SYMMETRIC) => random.below(u64::from(state.modulus).max(1)),
         (4, SYMMETRIC) => random.next() & random.next() & (u64::MAX >> (64 - n.min(64))),
         (4, TREE) => random.next() & children(state, task),
@@ -114,13 +116,19 @@ fn small_fresh(recorder: &mut Recorder, random: &mut Random) -> usize {
     n
 }
 
-/// A random state in range, then every task's turn and some runs.
+/// A random state in range, then every task's turn and some runs. Most often its counts and its
+/// tallies are those of a fresh state, as they refuse too many turns near their limits.
 pub fn state_in_range(recorder: &mut Recorder, random: &mut Random) {
     let n = small_fresh(recorder, random);
-    let small = !random.once_in(4);
+    let (counts, tallies) = (random.once_in(4), random.once_in(6));
     for task in 0..n {
         for field in TASK_FIELDS {
-            if field != 1 || !small {
+            let changes = match field {
+                COUNT => counts,
+                MOVES | WAITS => tallies,
+                _ => true,
+            };
+            if changes {
                 any_value(recorder, random, field, task);
             }
         }
@@ -180,4 +188,43 @@ pub fn near_the_limit(recorder: &mut Recorder, random: &mut Random) {
         turn_of_someone(recorder, random);
     }
     recorder.show();
+}
+
+/// Tallies at and just below their limit, of tasks that move, that wait, or that 11 refuses too.
+pub fn near_full_tallies(recorder: &mut Recorder, random: &mut Random) {
+    let n = small_fresh(recorder, random);
+    for _ in 0..random.length(1, 3) {
+        any_run(recorder, random, 60);
+        for task in 0..n {
+            nearly_full(recorder, random, task);
+        }
+        turn_of_ready(recorder);
+        for _ in 0..random.length(1, 5) {
+            turn_of_someone(recorder, random);
+        }
+        recorder.show();
+        any_run(recorder, random, 60);
+        turn_of_ready(recorder);
+    }
+    recorder.show();
+}
+
+/// Fills the task's tallies, or one of them, but for a few turns. Now and then puts the task to
+/// another line, with its count at the limit too.
+fn nearly_full(recorder: &mut Recorder, random: &mut Random, task: usize) {
+    for tally in [MOVES, WAITS] {
+        if random.once_in(2) {
+            let turns = random.pick(&[0, 0, 1, 2, 6, 20]);
+            recorder.set(tally, task, u64::from(MAX_TALLY) - turns);
+        }
+    }
+    if random.once_in(3) {
+        for field in [LINE, TOGGLE, FLAG] {
+            any_value(recorder, random, field, task);
+        }
+    } else if random.once_in(4) {
+        let line = counting_line(recorder.state().kind);
+        recorder.set(LINE, task, line.into());
+        recorder.set(COUNT, task, MAX_COUNT.into());
+    }
 }

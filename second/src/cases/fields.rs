@@ -10,3 +10,5 @@ pub const TOGGLE: u64 = 7;
 pub const FLAG: u64 = 8;
 pub const ARRIVALS: u64 = 12;
 pub const START: u64 = 15;
+pub const MOVES: u64 = 16;
+pub const WAITS: u64 = 17;

@@ -263,7 +263,7 @@ fn work_tables(recorder: &mut Recorder) {
 /// Fields and tasks of request 6 that aren't there.
 fn missing_fields(recorder: &mut Recorder) {
     recorder.fresh(RING.into(), 3, 0, &[]);
-    for field in (0..=16).chain([255, 256, 1 << 32, u64::MAX]) {
+    for field in (0..=18).chain([255, 256, 1 << 32, u64::MAX]) {
         for task in [0, 1, 63, 64, 255, 256, 1 << 32, u64::MAX] {
             recorder.change(field, task, 1);
         }
@@ -274,7 +274,7 @@ fn missing_fields(recorder: &mut Recorder) {
 
 /// Values that a field's type just holds, and one more.
 fn field_types(recorder: &mut Recorder) {
-    for field in 0..=15 {
+    for field in 0..=17 {
         for value in [255, 256, 511, (1 << 32) - 1, 1 << 32, (1 << 32) + 1, u64::MAX] {
             recorder.change(field, 0, value);
         }

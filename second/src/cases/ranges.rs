@@ -1,7 +1,8 @@
 //! Every field at and beyond the ends of its range, in used and unused fields, in tasks below N
 //! and from N on.
 
-use super::fields::START;
+use super::fields::{MOVES, START, WAITS};
+use super::values::TALLIES;
 use crate::machine::{FETCH_AND_INCREMENT, RING, SYMMETRIC, TREE};
 use crate::parents;
 use crate::recorder::Recorder;
@@ -21,6 +22,7 @@ pub fn cases(recorder: &mut Recorder) {
     every_kind_for_every_kind(recorder);
     starts_of_another_kind(recorder);
     starts_of_fewer_tasks(recorder);
+    tallies_of_fewer_tasks(recorder);
     parents_of_a_running_tree(recorder);
 }
 
@@ -82,6 +84,7 @@ fn values(recorder: &Recorder, field: u64, task: usize) -> Vec<u64> {
         4 => lists(n, task),
         5 => vec![0, 1, n - 1, n, n + 1, 63, 64, 255],
         START => vec![1, n - 1, n, n + 1, 255],
+        MOVES | WAITS => TALLIES.to_vec(),
         _ => vec![0, 1, 2, 255],
     }
 }
@@ -98,9 +101,10 @@ fn lists(n: u64, task: usize) -> Vec<u64> {
 }
 
 /// Asks for the ranges with one field changed. In range, 255 is no task and refused 9. The last
-/// task's fields are held against a run too, and so is the start of the one after it.
+/// task's fields are held against a run too, and so are the start and the tallies of the one after
+/// it.
 fn probe(recorder: &mut Recorder, field: u64, task: usize, value: u64) {
-    let runs = task + 1 == recorder.n() || (task == recorder.n() && field == START);
+    let runs = task + 1 == recorder.n() || (task == recorder.n() && field >= START);
     recorder.with(field, task, value, |recorder| {
         recorder.ready();
         recorder.turn(255);
@@ -170,6 +174,26 @@ fn starts_of_fewer_tasks(recorder: &mut Recorder) {
     recorder.ready();
     recorder.run_all(&[0, 0, 0, 1, 1, 0, 0]);
     recorder.show();
+}
+
+/// One task fewer: the tallies that it had are out of range until both are 0.
+fn tallies_of_fewer_tasks(recorder: &mut Recorder) {
+    for kind in 0..=3 {
+        recorder.fresh_kind(kind, 3);
+        recorder.change(MOVES, 2, 2);
+        recorder.change(WAITS, 2, 3);
+        recorder.change(10, 0, 2);
+        recorder.change(0, 2, 0);
+        for field in [MOVES, WAITS] {
+            recorder.ready();
+            recorder.turn(0);
+            recorder.run_all(&[0, 1]);
+            recorder.change(field, 2, 0);
+        }
+        recorder.ready();
+        recorder.run_all(&[0, 1]);
+        recorder.show();
+    }
 }
 
 /// Lists are held against the children that the parents give now.

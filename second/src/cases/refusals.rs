@@ -1,5 +1,6 @@
 //! Every refusal of every call at its boundary, on both sides, and the order of the refusals.
-//! Schedules of 65,536 turns and more stand with the long cases, counts with the limits.
+//! Schedules of 65,536 turns and more stand with the long cases, counts with the limits; tallies
+//! have their own part.
 
 use crate::machine::{Tables, FETCH_AND_INCREMENT, RING, SYMMETRIC, TREE};
 use crate::recorder::Recorder;

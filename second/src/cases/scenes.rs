@@ -1,7 +1,8 @@
 //! Random cases: scenes of every sort, and runs from fresh, continued and damaged states.
 
 use super::calls::{any_first_pass, any_passes, any_shape, misspelt};
-use super::damage::{damage, damage_for_a_while, near_the_limit, spread_counts, state_in_range};
+use super::damage::{damage, damage_for_a_while, state_in_range};
+use super::damage::{near_full_tallies, near_the_limit, spread_counts};
 use super::fresh::{accepted_fresh, any_fresh};
 use super::steps::{any_run, turn_of_ready, turn_of_someone};
 use super::values::{any_task_count, near_length, TASK_COUNTS};
@@ -58,7 +59,7 @@ pub fn requests(recorder: &mut Recorder, random: &mut Random, count: usize) {
 
 /// One random scene.
 fn scene(recorder: &mut Recorder, random: &mut Random) {
-    match random.below(17) {
+    match random.below(19) {
         0..=4 => life(recorder, random),
         5..=7 => state_in_range(recorder, random),
         8 | 9 => near_the_limit(recorder, random),
@@ -68,6 +69,7 @@ fn scene(recorder: &mut Recorder, random: &mut Random) {
         13 => any_shape(recorder, random),
         14 => misspelt(recorder, random),
         15 => spread_counts(recorder, random),
+        16 | 17 => near_full_tallies(recorder, random),
         _ => many_turns(recorder, random),
     }
 }

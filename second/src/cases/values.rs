@@ -1,14 +1,18 @@
-//! Values that several parts of the cases use: task counts, numbers and lengths near the ends of
-//! ranges, and schedules with a wrong turn.
+//! Values that several parts of the cases use: task counts, tallies, numbers and lengths near the
+//! ends of ranges, and schedules with a wrong turn.
 
 use crate::random::Random;
 
 /// The task counts of the stored random cases.
 pub const TASK_COUNTS: [usize; 9] = [1, 2, 3, 5, 8, 12, 31, 63, 64];
 
+/// Tallies around the limit and elsewhere.
+pub const TALLIES: [u64; 8] =
+    [0, 1, 2, 3_999_999_998, 3_999_999_999, 4_000_000_000, 4_000_000_001, 4_294_967_295];
+
 /// Numbers around the ends of the ranges.
-const NEAR: [u64; 20] =
-    [0, 1, 2, 3, 4, 5, 10, 11, 15, 16, 18, 19, 62, 63, 64, 65, 254, 255, 256, 257];
+const NEAR: [u64; 21] =
+    [0, 1, 2, 3, 4, 5, 10, 11, 15, 16, 17, 18, 19, 62, 63, 64, 65, 254, 255, 256, 257];
 
 /// A number around the end of a range, or the largest of all.
 pub fn near(random: &mut Random) -> u64 {

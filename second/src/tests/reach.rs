@@ -1,14 +1,16 @@
 //! All states that small barriers reach, with the least count taken off every count. In each:
-//! the counts differ by at most one, a task at 11 isn't ahead, somebody can move, and a few
-//! passes raise the least count.
+//! the counts differ by at most one, a task at 11 isn't ahead, somebody can move, a few passes
+//! raise the least count, and the tallies are the answers that were given on the way there.
 
 use super::starts::nearest;
+use super::tallies::Given;
 use super::{all_rows, begin, begin_starts, least};
 use crate::machine::{in_range, ready, step, turn, Outcome, State};
 use crate::machine::{FETCH_AND_INCREMENT, RING, SYMMETRIC, TREE};
 use std::collections::HashSet;
 
-/// The fields that can differ between the reached states of one barrier.
+/// The fields that can differ between the reached states of one barrier, but the tallies, which
+/// say nothing about the rest.
 fn key(state: &State) -> Vec<u8> {
     let n = usize::from(state.n);
     let mut key = vec![state.arrivals, state.sense];
@@ -30,16 +32,17 @@ fn lower(state: &mut State) {
 /// Visits every state reached from the fresh one. Gives their number.
 fn visit(fresh: State) -> usize {
     let mut seen = HashSet::from([key(&fresh)]);
-    let mut open = vec![fresh];
-    while let Some(state) = open.pop() {
+    let mut open = vec![(fresh, Given::default())];
+    while let Some((state, given)) = open.pop() {
         check_barrier(&state);
         check_ready(&state);
         check_progress(state);
+        given.check(&state);
         for task in 0..usize::from(state.n) {
-            let mut next = turned(state, task);
+            let (mut next, given) = turned(state, task, given);
             lower(&mut next);
             if seen.insert(key(&next)) {
-                open.push(next);
+                open.push((next, given));
             }
         }
     }
@@ -76,15 +79,21 @@ fn check_progress(mut state: State) {
     assert!(least(&state) > before, "{state:?}");
 }
 
-/// The state after a turn. A wait changes nothing; a move leaves every start and the other tasks'
-/// lines, counts and lists alone, and says by how much the least count rose.
-fn turned(state: State, task: usize) -> State {
+/// The state after a turn, and the answers given until then. A wait raises the wait tally and
+/// changes nothing else; a move leaves every start and the other tasks' lines, counts, lists and
+/// tallies alone, and says by how much the least count rose.
+fn turned(state: State, task: usize, mut given: Given) -> (State, Given) {
     let mut next = state;
     let outcome = turn(&mut next, task as u64);
+    given.count(task, outcome);
     let Ok(Outcome::Moved { closed }) = outcome else {
-        assert_eq!((outcome, next), (Ok(Outcome::Waited), state));
-        return next;
+        let mut waited = state;
+        waited.tasks[task].waits += 1;
+        assert_eq!((outcome, next), (Ok(Outcome::Waited), waited));
+        return (next, given);
     };
+    let (before, after) = (&state.tasks[task], &next.tasks[task]);
+    assert_eq!((before.moves + 1, before.waits), (after.moves, after.waits));
     assert_eq!(u32::from(closed), least(&next) - least(&state), "{state:?}");
     assert!(next.tasks[task].line != state.tasks[task].line || next.tasks[task].line == 18);
     check_look(&state, &next, task);
@@ -95,8 +104,9 @@ fn turned(state: State, task: usize) -> State {
         assert_eq!((before.list, before.looked), (after.list, after.looked));
         assert_eq!(before.start, after.start);
         assert_eq!((before.tag, before.old, before.aim), (after.tag, after.old, after.aim));
+        assert_eq!((before.moves, before.waits), (after.moves, after.waits));
     }
-    next
+    (next, given)
 }
 
 /// Line 13 of the symmetric barrier takes the listed task that is nearest to the start.

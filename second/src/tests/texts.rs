@@ -66,9 +66,9 @@ fn check_replay(cases: &[(&str, &str)]) {
 
 #[test]
 fn requests_of_a_state() {
-    let zeros = vec!["0"; 5 + 64 + 64 * 10].join(" ");
-    let mut fields = vec!["0"; 5 + 64 + 64 * 10];
-    for (place, value) in [(0, "1"), (1, "2"), (4, "1"), (69, "12"), (79, "11")] {
+    let zeros = vec!["0"; 5 + 64 + 64 * 12].join(" ");
+    let mut fields = vec!["0"; 5 + 64 + 64 * 12];
+    for (place, value) in [(0, "1"), (1, "2"), (4, "1"), (69, "12"), (79, "1"), (81, "11")] {
         fields[place] = value;
     }
     let counts = format!("0 1 {}", vec!["0"; 127].join(" "));
@@ -116,9 +116,9 @@ fn requests_of_rounds() {
 
 #[test]
 fn requests_of_starts() {
-    let zeros = vec!["0"; 5 + 64 + 64 * 10].join(" ");
-    let mut fields = vec!["0"; 5 + 64 + 64 * 10];
-    for (place, value) in [(0, "0"), (1, "2"), (2, "3"), (69, "11"), (78, "1"), (79, "11")] {
+    let zeros = vec!["0"; 5 + 64 + 64 * 12].join(" ");
+    let mut fields = vec!["0"; 5 + 64 + 64 * 12];
+    for (place, value) in [(0, "0"), (1, "2"), (2, "3"), (69, "11"), (78, "1"), (81, "11")] {
         fields[place] = value;
     }
     check_replay(&[
@@ -138,6 +138,41 @@ fn requests_of_starts() {
         ("10 3 2 0 2 2 0 0 1 0 0", "refused 6"),
         ("10 4 0 2 1 1 0 9 9", "refused 2"),
         ("10 0 2 3 0 0 0", "0"),
+    ]);
+}
+
+/// A ring of two whose task 1 waits at 12: its tallies, the run's own numbers, and 13.
+#[test]
+fn requests_of_tallies() {
+    let zeros = |length: usize| vec!["0"; length].join(" ");
+    let mut fields = vec!["0"; 5 + 64 + 64 * 12];
+    for (place, value) in [(0, "2"), (1, "2"), (69, "11"), (81, "12"), (91, "1")] {
+        fields[place] = value;
+    }
+    fields[92] = "4000000000";
+    let stopped = format!("stopped 13 1 {} 1 {} 12 0 255 255", zeros(66), zeros(62));
+    check_replay(&[
+        ("1 2 2 0", "0"),
+        ("2 1", "1 0"),
+        ("2 1", "0"),
+        ("6 17 1 3999999999", "ok"),
+        ("4 2 4 1 1", &stopped),
+        ("5", &fields.join(" ")),
+        ("2 1", "refused 13"),
+        ("3", "task 0"),
+        ("6 16 0 4000000000", "ok"),
+        ("3", "none"),
+        ("2 0", "refused 13"),
+        ("6 16 0 4000000001", "ok"),
+        ("2 0", "refused 7"),
+        ("6 16 0 4294967295", "ok"),
+        ("3", "refused 7"),
+        ("6 16 0 4294967296", "bad line"),
+        ("6 16 0 3999999999", "ok"),
+        ("2 0", "1 0"),
+        ("2 0", "refused 13"),
+        ("6 17 2 1", "ok"),
+        ("2 0", "refused 7"),
     ]);
 }
 
@@ -197,7 +232,11 @@ fn bad_lines() {
         "10 0 2 3 9223372036854775808 9223372036854775808 0",
         "10 0 2 3 0 0 18446744073709551615",
         "11 0 2 3 0 0 0",
-        "6 16 0 0",
+        "6 18 0 0",
+        "6 16 64 0",
+        "6 17 64 0",
+        "6 16 0 4294967296",
+        "6 17 0 4294967296",
         "6 15 64 0",
         "6 15 0 256",
         "6 0 64 1",
@@ -225,6 +264,8 @@ fn bad_lines() {
         ("6 1 63 4294967295", "ok"),
         ("6 14 63 255", "ok"),
         ("6 15 63 255", "ok"),
+        ("6 16 63 4294967295", "ok"),
+        ("6 17 63 4294967295", "ok"),
     ]);
 }
 

@@ -1,5 +1,5 @@
--- `runner::turns` meets its contract. The loop's invariant: state, tallies and log are those of the trace so far, and the counts and the least
--- of them those of the state.
+-- `runner::turns` meets its contract. The loop's invariant: state and log are those of the trace so far, and the counts and the least of them
+-- those of the state.
 -- A place of the code is reached from a later one by a name, and a fact stands at the first place that has it: a new place changes one name.
 use borrow.Author.Needs.{needs}
 use mathlib.Core.Path.{_≡_, sym, ap, _∙_}
@@ -13,18 +13,18 @@ use Rattle.machine.specs.declared.State.{State}
 use Rattle.machine.specs.Setters.{taskAt}
 use Rattle.machine.specs.Least.{countsOf, least}
 use Rattle.machine.specs.Turn.{effectOf, answerOf, reasonNumber}
-use Rattle.machine.specs.TurnLaws.{stored, stored-is, stored-own}
+use Rattle.machine.specs.TurnLaws.{number-le, stored, stored-is, stored-own}
 use Rattle.schedule.specs.Passes.{maxTurns}
 use Rattle.runner.proofs.Going as at
 use Rattle.runner.proofs.turns.Statement.{statement}
 use Rattle.runner.proofs.turns.Tie as tie
 
 abbrev Inv-loop : tie.InvT-loop
-Inv-loop table schedule turns end counts₀ log₀ state₀ moves₀ waits₀ least₀ before i₀ counts log state moves waits least i =
-    (i ≤ turns) × at.Going state₀ schedule log₀ i state (record { moves = moves; waits = waits; counts = counts; least = least }) log
+Inv-loop table schedule turns end counts₀ log₀ state₀ old-moves old-waits least₀ before i₀ counts log state least i =
+    (i ≤ turns) × at.Going state₀ schedule log₀ i state (record { counts = counts; least = least }) log
 
 abbrev μ-loop : tie.MeasureT-loop
-μ-loop table schedule turns end counts₀ log₀ state₀ moves₀ waits₀ least₀ before i₀ counts log state moves waits least i = turns - i
+μ-loop table schedule turns end counts₀ log₀ state₀ old-moves old-waits least₀ before i₀ counts log state least i = turns - i
 
 -- ---- what is handed over, and what its callers show
 
@@ -40,8 +40,11 @@ log-room c = c .pre .1 .1 .1 .1 .1
 counts-lent : (c : Start) → c .args .counts .now ≡ take (c .args .t1 .n) (countsOf (c .args .t1))
 counts-lent c = c .pre .1 .1 .1 .1 .0
 
+abbrev olds : tie.After-least-of Inv-loop μ-loop → tie.After-old-moves Inv-loop μ-loop
+olds c = c .before .before .before
+
 abbrev known : tie.After-least-of Inv-loop μ-loop → tie.After-slice-known Inv-loop μ-loop
-known c = c .before .before .before
+known c = olds c .before .before
 
 abbrev entry : tie.After-least-of Inv-loop μ-loop → Start
 entry c = known c .before .before .before
@@ -55,7 +58,7 @@ abbrev start : Test → Start
 start c = entry (c .before)
 
 abbrev held : Test → at.Held
-held c = record { moves = c .loop .moves; waits = c .loop .waits; counts = c .loop .counts; least = c .loop .least }
+held c = record { counts = c .loop .counts; least = c .loop .least }
 
 going : (c : Test) → at.Going (start c .args .t1) (start c .args .schedule .now) (start c .args .log .now) (c .loop .i) (c .loop .state) (held c) (c .loop .log)
 going c = c .loop .inv .1
@@ -95,7 +98,7 @@ next : (c : Turn) → at.Next (begun c .args .t1) (begun c .args .schedule .now)
     (state c) (held (c .before)) (c .before .loop .log)
 next c = record { going = going (c .before); all = begun c .pre .1 .1 .0; less = omega (arith, c .loop-test .taken, few-turns (begun c)) }
 
--- the turn has room in the log, and the tallies have room for it
+-- the turn has room in the log
 row-there : (c : Turn) → 2 * i c + 2 ≤ length (begun c .args .log .now)
 row-there c = omega (arith, c .loop-test .taken, log-room (begun c))
 
@@ -128,23 +131,26 @@ effect-is c =
 abbrev Answered : Type 0
 Answered = tie.After-of Inv-loop μ-loop
 
+abbrev closed : Answered → tie.After-closes Inv-loop μ-loop
+closed c = c .before
+
 abbrev acted : Answered → Acted
-acted c = c .before .before .before
+acted c = closed c .before .before .before .before
 
 outcome-is : (c : Answered) (o : Outcome) → c .of .result ≡ o → answerOf (state (turn (acted c))) (task (turn (acted c))) (acted c .effect-of .result) ≡ o
 outcome-is c o e =
     let a = acted c in
-    sym (c .of .ensures ∙ at.answer-is (next (turn a)) (a .effect-of .result) (effect-is a) (c .before .closes .result) (c .before .closes .ensures)) ∙ e
+    sym (c .of .ensures ∙ at.answer-is (next (turn a)) (a .effect-of .result) (effect-is a) (closed c .closes .result) (closed c .closes .ensures)) ∙ e
 
 -- ---- a turn that is refused
 
 abbrev refused : tie.After-reason-of Inv-loop μ-loop → Answered
 refused c = c .before .before .before
 
--- ---- a turn that is made: its row, its tallies, and what it stores
+-- ---- a turn that is made: its row, and what it stores
 
 abbrev Made : Type 0
-Made = tie.After-move-byte Inv-loop μ-loop
+Made = tie.After-number Inv-loop μ-loop
 
 abbrev told : Made → tie.After-outcome Inv-loop μ-loop
 told c = c .before .before
@@ -158,26 +164,20 @@ made c = turn (acted (answered c))
 abbrev how : Made → Move
 how c = told c .outcome .given .0 .0
 
-byte-le : (c : Made) → c .move-byte .result ≤ 1
-byte-le c = at.byte-le (how c) (c .move-byte .result) (c .move-byte .ensures)
+byte-le : (c : Made) → c .number .result ≤ 1
+byte-le c = number-le (how c) (c .number .result) (c .number .ensures)
 
-abbrev row : tie.After-moves Inv-loop μ-loop → tie.After-write-row Inv-loop μ-loop
+abbrev row : tie.After-store-count-arg Inv-loop μ-loop → tie.After-write-row Inv-loop μ-loop
 row c = c .before .before .before
 
-abbrev moved : tie.After-moves Inv-loop μ-loop → Made
-moved c = row c .before .before
+abbrev rowed : tie.After-store-count-arg Inv-loop μ-loop → Made
+rowed c = row c .before .before
 
-abbrev moves : tie.After-waits Inv-loop μ-loop → tie.After-tally Inv-loop μ-loop
-moves c = c .before
-
-abbrev waited : tie.After-waits Inv-loop μ-loop → Made
-waited c = moved (moves c .before)
-
-abbrev waits : tie.After-slice-known4 Inv-loop μ-loop → tie.After-tally2 Inv-loop μ-loop
-waits c = c .before .before .before .before
+abbrev counted : tie.After-slice-known4 Inv-loop μ-loop → tie.After-store-count Inv-loop μ-loop
+counted c = c .before .before
 
 abbrev tallied : tie.After-slice-known4 Inv-loop μ-loop → Made
-tallied c = waited (waits c .before)
+tallied c = rowed (counted c .before)
 
 abbrev words : tie.After-place Inv-loop μ-loop → tie.After-arrivals Inv-loop μ-loop
 words c = c .before .before
@@ -203,13 +203,14 @@ kept c = tallied (c .before .before)
 abbrev done : Stored → Turn
 done c = made (kept c)
 
-stores : (c : Stored) → c .if1 .state ≡ stored (state (done c)) (task (done c)) (acted (answered (kept c)) .effect-of .result)
+stores : (c : Stored) → c .if1 .state ≡ stored (state (done c)) (task (done c)) (acted (answered (kept c)) .effect-of .result) (how (kept c))
 stores c =
     let t = done c in
-    let e = acted (answered (kept c)) .effect-of .result in
+    let m = kept c in
+    let e = acted (answered m) .effect-of .result in
     ⊎-elim
-    (λ w. w .6 ∙ stored-is (state t) (task t) e _ _ _ _ (w .1 .ensures) (w .2 .ensures) (w .3 .ensures) (w .5 .ensures))
-    (λ w. w .1 ∙ stored-own (state t) (task t) e (sym (c .before .writes .ensures) ∙ w .0 .left))
+    (λ w. w .6 ∙ stored-is (state t) (task t) e (how m) _ _ _ _ _ (m .number .ensures) (w .1 .ensures) (w .2 .ensures) (w .3 .ensures) (w .5 .ensures))
+    (λ w. w .1 ∙ stored-own (state t) (task t) e (how m) _ (m .number .ensures) (sym (c .before .writes .ensures) ∙ w .0 .left))
     (c .if1 .came)
 
 -- ---- the needs
@@ -229,8 +230,23 @@ element-copy-out-own c = own-there (c .before)
 element-copy-out-seen : tie.Need-element-copy-out-seen Inv-loop μ-loop
 element-copy-out-seen c = seen-there (looking c)
 
+mul-moves : tie.Need-mul-moves Inv-loop μ-loop
+mul-moves c = omega (arith, own-there (turn (c .before)))
+
+element-copy-out-moves : tie.Need-element-copy-out-moves Inv-loop μ-loop
+element-copy-out-moves c = own-there (turn (c .before))
+
+mul-waits : tie.Need-mul-waits Inv-loop μ-loop
+mul-waits c = omega (arith, own-there (turn (c .before .before)))
+
+element-copy-out-waits : tie.Need-element-copy-out-waits Inv-loop μ-loop
+element-copy-out-waits c = own-there (turn (c .before .before))
+
 sub-report : tie.Need-sub-report Inv-loop μ-loop
 sub-report c = omega (arith, no-less (turn (acted (refused (c .before))) .before))
+
+report-requires : tie.Need-report-requires Inv-loop μ-loop
+report-requires c κs = at.no-less (going (turn (acted (refused (c .before))) .before))
 
 same-length : tie.Need-same-length Inv-loop μ-loop
 same-length c = counts-long (turn (acted (refused (c .before .before))) .before)
@@ -264,24 +280,30 @@ write-row-requires c κs =
     let log = t .before .loop .log in
     omega (arith, row-there t, log-long (t .before), length-take (length log - 2 * i t) (drop (2 * i t) log), length-drop (2 * i t) log)
 
-tally-requires : tie.Need-tally-requires Inv-loop μ-loop
-tally-requires c κs =
-    let t = made (moved c) in
-    (own-there t, omega (arith, at.moves-room (going (t .before)) (task t) (own-there t), byte-le (moved c), soon t))
-
-sub-tally : tie.Need-sub-tally Inv-loop μ-loop
-sub-tally c = byte-le (waited c)
-
-tally-requires-2 : tie.Need-tally-requires-2 Inv-loop μ-loop
-tally-requires-2 c κs =
-    let t = made (waited c) in
-    (own-there t, omega (arith, at.waits-room (going (t .before)) (task t) (own-there t), soon t))
-
 store-count-requires : tie.Need-store-count-requires Inv-loop μ-loop
 store-count-requires c κs =
-    let a = acted (answered (waited (c .before .before))) in
+    let a = acted (answered (rowed c)) in
     let n = next (turn a) in
     (at.count-there n, (at.least-there n, at.count-rises n (a .effect-of .result) (effect-is a)))
+
+add-state : tie.Need-add-state Inv-loop μ-loop
+add-state c = let m = tallied c in omega (arith, at.moves-room (next (made m)), at.waits-room (next (made m)), byte-le m)
+
+sub-state : tie.Need-sub-state Inv-loop μ-loop
+sub-state c = byte-le (tallied c)
+
+add-state-2 : tie.Need-add-state-2 Inv-loop μ-loop
+add-state-2 c = let m = tallied c in omega (arith, at.moves-room (next (made m)), at.waits-room (next (made m)))
+
+-- the own task's place in an array of the state
+own-place : (c : tie.After-slice-known4 Inv-loop μ-loop) → task (made (tallied c)) < 64
+own-place c = own-there (made (tallied c))
+
+mul-state : tie.Need-mul-state Inv-loop μ-loop
+mul-state c = omega (arith, own-place c)
+
+mul-state-2 : tie.Need-mul-state-2 Inv-loop μ-loop
+mul-state-2 c = omega (arith, own-place c)
 
 mul-next : tie.Need-mul-next Inv-loop μ-loop
 mul-next c = omega (arith, own-there (made (tallied c)))
@@ -306,21 +328,21 @@ loop-less c = omega (arith, done c .loop-test .taken)
 
 loop-again : tie.Need-loop-again Inv-loop μ-loop
 loop-again c =
-    let n = c .before .before in
-    let k = n .before .before in
-    let w = waits n in
-    let v = moves (w .before) in
+    let k = counted (c .before .before) in
     let m = kept c in
     let o = answered m in
     let a = acted o in
     let t = turn a in
     let answer = outcome-is o _ (told m .outcome .given .1) in
-    let on = at.goes-on (next t) (a .effect-of .result) (effect-is a) (how m) answer (m .move-byte .result) _ _ _ _ _ _ (m .move-byte .ensures) (row-there t)
-    (stores c) (v .tally .ensures) (w .tally2 .ensures) (k .store-count .ensures .0) (k .store-count .ensures .1) (row (v .before) .write-row .ensures) in
+    let on = at.goes-on (next t) (a .effect-of .result) (effect-is a) (how m) answer (m .number .result) _ _ _ _ (m .number .ensures) (row-there t)
+    (stores c) (k .store-count .ensures .0) (k .store-count .ensures .1) (row (k .before) .write-row .ensures) in
     (omega (arith, t .loop-test .taken), on)
 
 sub-report-2 : tie.Need-sub-report-2 Inv-loop μ-loop
 sub-report-2 c = omega (arith, no-less (c .before .before))
+
+report-requires-2 : tie.Need-report-requires-2 Inv-loop μ-loop
+report-requires-2 c κs = at.no-less (going (c .before .before))
 
 same-length-3 : tie.Need-same-length-3 Inv-loop μ-loop
 same-length-3 c = counts-long (c .before .before .before)
@@ -340,9 +362,11 @@ pub turns-spec : {M : Type 1} → statement M
 turns-spec =
     tie.close
     (tie.spec Inv-loop μ-loop (λ c κs. search needs) loop-holds (λ c. search needs) cast-task mul-own element-copy-out-own (λ c. search needs)
-    (λ c. search needs) element-copy-out-seen (λ c κs. search needs) (λ c κs. search needs) (λ c κs. search needs) (λ c. search needs)
-    (λ c. search needs) (λ c κs. search needs) sub-report (λ c κs. search needs) same-length same-length-2 returns (λ c κs. search needs)
-    mul-write-row sub-write-row part-write-row-start (λ c. search needs) write-row-requires tally-requires sub-tally tally-requires-2
-    store-count-requires mul-next element-set-from-next (λ c κs. search needs) (λ c κs. search needs) (λ c κs. search needs) (λ c κs. search needs)
+    (λ c. search needs) element-copy-out-seen (λ c κs. search needs) mul-moves element-copy-out-moves mul-waits
+    element-copy-out-waits (λ c κs. search needs) (λ c κs. search needs) (λ c. search needs)
+    (λ c. search needs) (λ c κs. search needs) sub-report report-requires same-length same-length-2 returns (λ c κs. search needs)
+    mul-write-row sub-write-row part-write-row-start (λ c. search needs) write-row-requires
+    store-count-requires (λ c. search needs) add-state mul-state own-place sub-state (λ c. search needs) add-state-2
+    mul-state-2 own-place mul-next element-set-from-next (λ c κs. search needs) (λ c κs. search needs) (λ c κs. search needs) (λ c κs. search needs)
     mul-there element-copy-out-there (λ c κs. search needs) (λ c. omega (arith, place-there (place c))) element-set-from-state add-i loop-less
-    loop-again sub-report-2 (λ c κs. search needs) same-length-3 same-length-4 returns-2)
+    loop-again sub-report-2 report-requires-2 same-length-3 same-length-4 returns-2)

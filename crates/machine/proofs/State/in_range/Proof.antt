@@ -1,6 +1,10 @@
--- `machine::State::in_range` meets its contract: the tests are those of the definition, in its order.
+-- `machine::State::in_range` meets its contract: the tests are those of the definition, in its order, and its types give the tallies' lengths.
 use borrow.Author.Needs.{needs}
+use borrow.Author.Tests.{eq-eqb}
+use mathlib.Core.Bool.{and-true}
+use lib.ListN.{length}
 use Rattle.machine.specs.Range.{stateOk}
+use Rattle.machine.proofs.Arrays.{moves-64, waits-64}
 use Rattle.machine.proofs.State.in_range.Statement.{statement}
 use Rattle.machine.proofs.State.in_range.Tie as tie
 
@@ -9,6 +13,8 @@ unfolding stateOk
 returns c =
     let m = c .before .before .before .before in
     let n = m .before .before in
+    let start = n .before .before .before in
+    let s = start .args .self in
     rw (
       n .before .is-kind .ensures,
       n .is-count .ensures,
@@ -17,6 +23,9 @@ returns c =
       c .before .before .field-ok2 .ensures,
       c .before .parents-ok .ensures,
       c .tasks-ok .ensures,
+      eq-eqb (length (s .moves)) 64 (moves-64 s _ (start .good .0)),
+      eq-eqb (length (s .waits)) 64 (waits-64 s _ (start .good .0)),
+      and-true,
     )
 
 pub in-range-spec : {M : Type 1} → statement M

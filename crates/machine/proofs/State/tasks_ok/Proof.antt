@@ -1,26 +1,49 @@
 -- `machine::State::tasks_ok` meets its contract. The loop's invariant: it holds the answer for the tasks passed.
 use borrow.Author.Needs.{needs}
 use mathlib.Core.Path.{_≡_, refl}
-use Prim.Native.Nat.{_-_, _≤_}
+use mathlib.Core.Bool.{Bool, _&&_}
+use Prim.Native.Nat.{ℕ, _+_, _-_, _≤_}
 use native.Mathlib.Numerals.{add-one}
 use native.Mathlib.Omega.{arith}
-use Rattle.machine.specs.Range.{tasksOk}
+use lib.Dec.{ltb}
+use Rattle.bitset.specs.Choice.{pick}
+use Rattle.machine.specs.declared.State.{State}
+use Rattle.machine.specs.Setters.{taskAt, movesAt, waitsAt}
+use Rattle.machine.specs.Range.{taskOk, taskZero, tallyOk, tasksOk}
 use Rattle.machine.proofs.State.tasks_ok.Statement.{statement}
 use Rattle.machine.proofs.State.tasks_ok.Tie as tie
 
 abbrev Inv-loop : tie.InvT-loop
-Inv-loop self ok₀ q₀ ok q = (q ≤ 64) × (ok ≡ tasksOk self q)
+Inv-loop self n ok₀ q₀ ok q = (q ≤ 64) × (ok ≡ tasksOk self q)
 
 abbrev μ-loop : tie.MeasureT-loop
-μ-loop self ok₀ q₀ ok q = 64 - q
+μ-loop self n ok₀ q₀ ok q = 64 - q
+
+-- one task more
+one-more : (s : State) (q : ℕ) (ok place moves waits : Bool) → ok ≡ tasksOk s q
+    → place ≡ pick (ltb q (s .n)) (taskOk s q (taskAt s q)) (taskZero (taskAt s q))
+    → moves ≡ tallyOk (s .n) q (movesAt s q) → waits ≡ tallyOk (s .n) q (waitsAt s q)
+    → (ok && (place && (moves && waits))) ≡ tasksOk s (q + 1)
+unfolding tasksOk
+one-more s q ok place moves waits eo ep em ew = rw (add-one q, eo, ep, em, ew)
+
+-- where the first tally and the loop's test are looked at
+abbrev first : tie.After-tally-ok2 Inv-loop μ-loop → tie.After-tally-ok Inv-loop μ-loop
+first c = c .before .before
+
+abbrev tested : tie.After-tally-ok Inv-loop μ-loop → tie.At-loop Inv-loop μ-loop
+tested c = c .before .before .before .before
 
 loop-holds : tie.Need-loop-holds Inv-loop μ-loop
 unfolding tasksOk
 loop-holds c = (search needs, refl)
 
 loop-again : tie.Need-loop-again Inv-loop μ-loop
-unfolding tasksOk
-loop-again c = (search needs, rw (add-one (c .before .before .before .loop .q), c .before .before .before .loop .inv .1, c .place-ok .ensures))
+loop-again c =
+    let w = c .before in
+    let m = first w in
+    let l = tested m in
+    (search needs, one-more (l .before .args .t1) (l .loop .q) _ _ _ _ (l .loop .inv .1) (c .place-ok .ensures) (m .tally-ok .ensures) (w .tally-ok2 .ensures))
 
 returns : tie.Need-returns Inv-loop μ-loop
 returns c = let e : c .before .loop .q ≡ 64 = omega arith in rw e at (c .before .loop .inv .1)
@@ -28,5 +51,6 @@ returns c = let e : c .before .loop .q ≡ 64 = omega arith in rw e at (c .befor
 pub tasks-ok-spec : {M : Type 1} → statement M
 tasks-ok-spec =
     tie.close
-    (tie.spec Inv-loop μ-loop loop-holds (λ c. search needs) (λ c. search needs) (λ c κs. search needs)
-    (λ c. search needs) (λ c. search needs) loop-again returns)
+    (tie.spec Inv-loop μ-loop (λ c. search needs) loop-holds (λ c. search needs) (λ c. search needs) (λ c. search needs) (λ c. search needs)
+    (λ c κs. search needs) (λ c. search needs) (λ c. search needs) (λ c κs. search needs) (λ c κs. search needs) (λ c. search needs)
+    (λ c. search needs) loop-again returns)

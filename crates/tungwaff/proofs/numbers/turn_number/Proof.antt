@@ -6,7 +6,7 @@ use Rattle.tungwaff.proofs.numbers.turn_number.Statement.{statement}
 use Rattle.tungwaff.proofs.numbers.turn_number.Tie as tie
 
 returns : tie.Need-returns
-returns c = c .move-number .ensures ∙ sym (ap turnNumber (c .before .before .outcome .given .1))
+returns c = c .number .ensures ∙ sym (ap turnNumber (c .before .before .outcome .given .1))
 
 returns-2 : tie.Need-returns-2
 returns-2 c = sym (ap turnNumber (c .enum-told .given .1))
