@@ -12,4 +12,4 @@ returns-2 : tie.Need-returns-2
 returns-2 c = sym (ap turnNumber (c .enum-told .given .1))
 
 pub turn-number-spec : {M : Type 1} → statement M
-turn-number-spec = tie.close (tie.spec (λ c. search needs) (λ c κs. search needs) (λ c. search needs) returns returns-2)
+turn-number-spec = tie.close (tie.spec (λ c. search needs) (λ c κs. search needs) (λ c. search needs) (λ c. search needs) returns returns-2)
