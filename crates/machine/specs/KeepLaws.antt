@@ -40,7 +40,7 @@ use Rattle.lines.specs.Tree.{treeLine}
 use Rattle.lines.specs.Words.{placeOf}
 use Rattle.lines.specs.LineLaws.{by-kind, by-symmetric, by-increment, by-ring, by-tree, Does, keeps, raises, stays, refused-7, refused-11}
 use Rattle.machine.specs.Turn.{sharedOf, effectOf, written, movedTo, applied, turnOf}
-use Rattle.machine.specs.TurnLaws.{effect-does, Makes, turn-makes, turn-applied, written-moves, moved-n, put-same, put-other}
+use Rattle.machine.specs.TurnLaws.{effect-does, Makes, turn-makes, turn-applied, written-tallies, moved-n, put-same, put-other}
 use Rattle.machine.specs.RangeLaws.{TaskRange, Tallies, InRange, range, valid, present, line-14, used, modulus-3}
 
 -- ---- storing keeps the range
@@ -310,14 +310,11 @@ more-tallied n p l r h room =
     at q k (no ne) there = rw (getD-set-other l p q (getD l p 0 + 1) 0 ne) (r .each q k)
 
 -- the range of a task speaks of no tally
-re-moves : (s : State) (q : ℕ) (t : Task) (x : List ℕ) → TaskRange s q t → TaskRange (withMoves s x) q t
-re-moves s q t x r = search
+re-tallies : (s : State) (q : ℕ) (t : Task) (x y : List ℕ) → TaskRange s q t → TaskRange (withWaits (withMoves s x) y) q t
+re-tallies s q t x y r = search
 
-re-waits : (s : State) (q : ℕ) (t : Task) (x : List ℕ) → TaskRange s q t → TaskRange (withWaits s x) q t
-re-waits s q t x r = search
-
-keep-moves : (s : State) (x : List ℕ) → InRange s → Tallies (s .n) x → InRange (withMoves s x)
-keep-moves s x r ok =
+keep-tallies : (s : State) (x y : List ℕ) → InRange s → Tallies (s .n) x → Tallies (s .n) y → InRange (withWaits (withMoves s x) y)
+keep-tallies s x y r mx wy =
     record {
       kind = r .kind;
       some = r .some;
@@ -326,26 +323,10 @@ keep-moves s x r ok =
       arrivals = r .arrivals;
       sense = r .sense;
       parents = r .parents;
-      tasks = λ q l. re-moves s q (taskAt s q) x (r .tasks q l);
+      tasks = λ q l. re-tallies s q (taskAt s q) x y (r .tasks q l);
       rest = r .rest;
-      moves = ok;
-      waits = r .waits;
-    }
-
-keep-waits : (s : State) (x : List ℕ) → InRange s → Tallies (s .n) x → InRange (withWaits s x)
-keep-waits s x r ok =
-    record {
-      kind = r .kind;
-      some = r .some;
-      few = r .few;
-      modulus = r .modulus;
-      arrivals = r .arrivals;
-      sense = r .sense;
-      parents = r .parents;
-      tasks = λ q l. re-waits s q (taskAt s q) x (r .tasks q l);
-      rest = r .rest;
-      moves = r .moves;
-      waits = ok;
+      moves = mx;
+      waits = wy;
     }
 
 -- what a turn that is made leaves
@@ -354,12 +335,13 @@ keep-made s p (Moved c) m =
     let r = range s (m .valid) in
     let g : Good s p Moves (effectOf s p .task) (effectOf s p .write) = rw (m .act) at (good-effect s p r (m .known)) in
     let x = keep-moved s p (effectOf s p .task) (effectOf s p .write) r (m .known) (g .0) (g .1) in
-    keep-moves (movedTo s p (effectOf s p .task) (effectOf s p .write)) _ x
+    keep-tallies (movedTo s p (effectOf s p .task) (effectOf s p .write)) _ _ x
     (more-tallied _ p _ (x .moves) (rw (moved-n s p (effectOf s p .task) (effectOf s p .write)) (m .known))
-    (rw (written-moves (effectOf s p .write) s p (effectOf s p .task)) (m .room)))
+    (rw (written-tallies (effectOf s p .write) s p (effectOf s p .task) .0) (m .room)))
+    (x .waits)
 keep-made s p Waited m =
     let r = range s (m .valid) in
-    keep-waits s _ r (more-tallied (s .n) p (s .waits) (r .waits) (m .known) (m .room))
+    keep-tallies s _ _ r (r .moves) (more-tallied (s .n) p (s .waits) (r .waits) (m .known) (m .room))
 
 pub turn-valid : (s : State) (p : ℕ) → Valid s → Valid (turnOf s p .state)
 turn-valid s p ok = rw (turn-applied s p) (go (turnOf s p .outcome) refl)

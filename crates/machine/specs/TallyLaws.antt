@@ -21,9 +21,9 @@ use Rattle.machine.specs.declared.Outcome.the-variants.{Made, Refused}
 use Rattle.machine.specs.Setters.{movesAt, waitsAt}
 use Rattle.machine.specs.Tally.{maxTally, tallied}
 use Rattle.machine.specs.Range.{Valid}
-use Rattle.machine.specs.RangeLaws.{range}
+use Rattle.machine.specs.RangeLaws.{Tallies, range}
 use Rattle.machine.specs.Turn.{effectOf, turnOf, moveNumber, waitNumber}
-use Rattle.machine.specs.TurnLaws.{Full, Makes, turn-makes, refused-still, waited-tallied, moved-tallied, written-moves, written-waits}
+use Rattle.machine.specs.TurnLaws.{Full, Makes, turn-makes, refused-still, waited-tallied, moved-tallied, written-tallies}
 use Rattle.machine.specs.CountLaws.{Why, seven, eleven, thirteen, turn-why}
 
 -- ---- what a turn adds
@@ -47,11 +47,8 @@ none p q x = by-test (λ k. x ≡ x + k) (eqb p q) (λ _. omega arith) (λ _. om
 
 module _ (s : State) (p : ℕ) where
   -- a task of a turn that is made has its tallies
-  moves-there : {how : Move} → Makes s p how → p < length (s .moves)
-  moves-there m = let r = range s (m .valid) in omega (arith, r .moves .long, r .few, m .known)
-
-  waits-there : {how : Move} → Makes s p how → p < length (s .waits)
-  waits-there m = let r = range s (m .valid) in omega (arith, r .waits .long, r .few, m .known)
+  there : {how : Move} → Makes s p how → (p < length (s .moves)) × (p < length (s .waits))
+  there m = let r = range s (m .valid) in (omega (arith, r .moves .long, r .few, m .known), omega (arith, r .waits .long, r .few, m .known))
 
   -- every turn, of every state, adds to its task's tallies what it answers, and to no other's
   pub turn-tallies : (q : ℕ)
@@ -63,11 +60,12 @@ module _ (s : State) (p : ℕ) where
           → (movesAt (turnOf s p .state) q ≡ movesAt s q + pick (eqb p q) (weighed moveNumber o) 0)
           × (waitsAt (turnOf s p .state) q ≡ waitsAt s q + pick (eqb p q) (weighed waitNumber o) 0)
       go (Made (Moved c)) e =
-          rw (moved-tallied s p c e, written-moves (effectOf s p .write) s p (effectOf s p .task), written-waits (effectOf s p .write) s p (effectOf s p .task))
-          (tallied-at (s .moves) p q 1 (moves-there (turn-makes s p (Moved c) e)), none p q (waitsAt s q))
+          let kept = written-tallies (effectOf s p .write) s p (effectOf s p .task) in
+          rw (moved-tallied s p c e, kept .0, kept .1)
+          (tallied-at (s .moves) p q 1 (there (turn-makes s p (Moved c) e) .0), none p q (waitsAt s q))
       go (Made Waited) e =
           rw (waited-tallied s p e)
-          (none p q (movesAt s q), tallied-at (s .waits) p q 1 (waits-there (turn-makes s p Waited e)))
+          (none p q (movesAt s q), tallied-at (s .waits) p q 1 (there (turn-makes s p Waited e) .1))
       go (Refused k) e = rw (refused-still s p k e) (none p q (movesAt s q), none p q (waitsAt s q))
 
 -- so no tally rises by more than one
@@ -92,13 +90,14 @@ tallies-rise s p q = (omega (arith, turn-tallies s p q .0, at-most moveNumber mo
 -- ---- their limit
 
 -- no tally of a task in a state in range is past it
+limit : (n q : ℕ) (l : List ℕ) → Tallies n l → q < n → n ≤ 64 → getD l q 0 ≤ maxTally
+limit n q l t h few = leb-true (getD l q 0) maxTally (rw (lt-ltb q n h) at (t .each q (omega arith)))
+
 pub moves-limit : (s : State) (q : ℕ) → Valid s → q < s .n → movesAt s q ≤ maxTally
-moves-limit s q ok h =
-    let r = range s ok in leb-true (movesAt s q) maxTally (rw (lt-ltb q (s .n) h) at (r .moves .each q (omega (arith, r .few))))
+moves-limit s q ok h = let r = range s ok in limit (s .n) q (s .moves) (r .moves) h (r .few)
 
 pub waits-limit : (s : State) (q : ℕ) → Valid s → q < s .n → waitsAt s q ≤ maxTally
-waits-limit s q ok h =
-    let r = range s ok in leb-true (waitsAt s q) maxTally (rw (lt-ltb q (s .n) h) at (r .waits .each q (omega (arith, r .few))))
+waits-limit s q ok h = let r = range s ok in limit (s .n) q (s .waits) (r .waits) h (r .few)
 
 -- 13: a move meets it where its task's tally of moves is at the limit, a wait where its tally of waits is, and neither for the other
 pub turn-13 : (s : State) (p : ℕ) → Valid s → p < s .n → turnOf s p .outcome ≡ Refused 13

@@ -262,25 +262,28 @@ stored-is state p e how byte arrivals sense place there eb ea es ep et = rw (eb,
 tallied-0 : (l : List ℕ) (p : ℕ) → tallied l p 0 ≡ l
 tallied-0 l p = let same : getD l p 0 + 0 ≡ getD l p 0 = omega arith in ap (set l p) same ∙ set-getD l p 0
 
+-- a state with the tallies of s after a turn
+abbrev pub withTallies : State → State → ℕ → Move → State
+withTallies x s p how = withWaits (withMoves x (tallied (s .moves) p (moveNumber how))) (tallied (s .waits) p (waitNumber how))
+
 -- a move stores all but the tallies
 stored-move : (w : Write) (s : State) (p : ℕ) (u : Task) (how : Move)
-    → withWaits (withMoves (written w (withTask s p u)) (tallied (s .moves) p (moveNumber how))) (tallied (s .waits) p (waitNumber how))
-    ≡ stored s p (moves u w) how
+    → withTallies (written w (withTask s p u)) s p how ≡ stored s p (moves u w) how
 stored-move Nothing s p u how =
-    ap (λ (ts : List Task). withTasks (withWaits (withMoves s (tallied (s .moves) p (moveNumber how))) (tallied (s .waits) p (waitNumber how))) ts)
+    ap (λ (ts : List Task). withTasks (withTallies s s p how) ts)
     (sym (set-getD (set (s .tasks) p u) p zeroTask))
 stored-move (Arrivals x) s p u how =
-    ap (λ (ts : List Task). withArrivals (withTasks (withWaits (withMoves s (tallied (s .moves) p (moveNumber how))) (tallied (s .waits) p (waitNumber how))) ts) x)
+    ap (λ (ts : List Task). withArrivals (withTasks (withTallies s s p how) ts) x)
     (sym (set-getD (set (s .tasks) p u) p zeroTask))
 stored-move (Sense x) s p u how =
-    ap (λ (ts : List Task). withSense (withTasks (withWaits (withMoves s (tallied (s .moves) p (moveNumber how))) (tallied (s .waits) p (waitNumber how))) ts) x)
+    ap (λ (ts : List Task). withSense (withTasks (withTallies s s p how) ts) x)
     (sym (set-getD (set (s .tasks) p u) p zeroTask))
 stored-move (Toggle q x) s p u how = refl
 stored-move (Flag q x) s p u how = refl
 
 pub stored-moved : (s : State) (p : ℕ) (e : Effect) (how : Move)
     → stored s p e how
-    ≡ withWaits (withMoves (movedTo s p (e .task) (e .write)) (tallied (s .moves) p (moveNumber how))) (tallied (s .waits) p (waitNumber how))
+    ≡ withTallies (movedTo s p (e .task) (e .write)) s p how
 stored-moved s p e how = sym (stored-move (e .write) s p (e .task) how)
 
 -- where the effect writes nothing, storing its own task and the tallies is all
@@ -289,7 +292,7 @@ pub stored-own : (s : State) (p : ℕ) (e : Effect) (how : Move) (byte : ℕ) �
 stored-own s p e how byte eb none = rw (eb, wait-number how) (go (e .write) none)
   where
     go : (w : Write) → writes w ≡ false
-        → withTask (withWaits (withMoves s (tallied (s .moves) p (moveNumber how))) (tallied (s .waits) p (waitNumber how))) p (e .task)
+        → withTask (withTallies s s p how) p (e .task)
         ≡ stored s p (record { act = e .act; task = e .task; write = w }) how
     go Nothing none = stored-move Nothing s p (e .task) how
     go (Arrivals x) none = absurd (true≢false none)
@@ -298,27 +301,20 @@ stored-own s p e how byte eb none = rw (eb, wait-number how) (go (e .write) none
     go (Flag q x) none = absurd (true≢false none)
 
 -- writing leaves the tallies
-pub written-moves : (w : Write) (s : State) (p : ℕ) (t : Task) → written w (withTask s p t) .moves ≡ s .moves
-written-moves Nothing s p t = refl
-written-moves (Arrivals x) s p t = refl
-written-moves (Sense x) s p t = refl
-written-moves (Toggle q x) s p t = refl
-written-moves (Flag q x) s p t = refl
-
-pub written-waits : (w : Write) (s : State) (p : ℕ) (t : Task) → written w (withTask s p t) .waits ≡ s .waits
-written-waits Nothing s p t = refl
-written-waits (Arrivals x) s p t = refl
-written-waits (Sense x) s p t = refl
-written-waits (Toggle q x) s p t = refl
-written-waits (Flag q x) s p t = refl
+pub written-tallies : (w : Write) (s : State) (p : ℕ) (t : Task) → (written w (withTask s p t) .moves ≡ s .moves) × (written w (withTask s p t) .waits ≡ s .waits)
+written-tallies Nothing s p t = (refl, refl)
+written-tallies (Arrivals x) s p t = (refl, refl)
+written-tallies (Sense x) s p t = (refl, refl)
+written-tallies (Toggle q x) s p t = (refl, refl)
+written-tallies (Flag q x) s p t = (refl, refl)
 
 -- what the outcome of a turn that is made leaves: all that its effect has, stored. A wait's effect has the task that stood there, and writes
 -- nothing.
 applied-stored : (s : State) (p : ℕ) (e : Effect) → Does (sharedOf s) (taskAt s p) e → (how : Move) → e .act ≡ actOf how
     → applied (Made how) s p (e .task) (e .write) ≡ stored s p e how
 applied-stored s p e d (Moved c) act =
-    ap (λ (l : List ℕ). withMoves moved (tallied l p 1)) (written-moves (e .write) s p (e .task))
-    ∙ ap (withWaits (withMoves moved (tallied (s .moves) p 1))) (written-waits (e .write) s p (e .task) ∙ sym (tallied-0 (s .waits) p))
+    ap (λ (l : List ℕ). withMoves moved (tallied l p 1)) (written-tallies (e .write) s p (e .task) .0)
+    ∙ ap (withWaits (withMoves moved (tallied (s .moves) p 1))) (written-tallies (e .write) s p (e .task) .1 ∙ sym (tallied-0 (s .waits) p))
     ∙ sym (stored-moved s p e (Moved c))
   where
     moved : State
