@@ -29,7 +29,7 @@ unfoldable pub afterAll : State → List Call → State
 afterAll s [] = s
 afterAll s (c ∷ cs) = afterAll (after s c) cs
 
--- "A list's counted turns are, in order, the task of each single turn answered moved, waited or 11, (02, P3: "a turn refused 13 isn't counted")
+-- "A list's counted turns are, in order, the task of each single turn answered moved, waited or 11,
 abbrev pub countedTurn : ℕ → Outcome → List ℕ
 countedTurn p (Made m) = p ∷ []
 countedTurn p (Refused k) = pick (eqb k 11) (p ∷ []) []
@@ -40,7 +40,7 @@ abbrev pub countedRun : State → List ℕ → ℕ → List ℕ → List ℕ
 countedRun s schedule allowance log =
     pick (eqb (runReason s schedule allowance (length log)) 0) (countedIn (runTrace s schedule allowance)) []
 
--- "Nothing else counts."
+-- "Nothing else counts." 02, P3: "In the progress rule a turn refused 13 isn't counted".
 abbrev pub counted : State → Call → List ℕ
 counted s (turn p) = countedTurn p (turnOf s p .outcome)
 counted s (run schedule allowance log) = countedRun s schedule allowance log

@@ -10,14 +10,13 @@ use lib.Seq.{take-take}
 use Rattle.bitset.specs.Choice.{pick}
 use Rattle.bitset.specs.ChoiceLaws.{by-test}
 use Rattle.machine.specs.declared.State.{State}
-use Rattle.machine.specs.declared.Move.{Move}
-use Rattle.machine.specs.declared.Move.the-variants.{Moved, Waited}
 use Rattle.machine.specs.declared.Outcome.{Outcome}
 use Rattle.machine.specs.declared.Outcome.the-variants.{Made, Refused}
 use Rattle.machine.specs.Setters.{movesAt, waitsAt}
 use Rattle.machine.specs.Fresh.{Inputs, freshReason, freshOf}
 use Rattle.machine.specs.FreshLaws.{fresh-accepted, fresh-tally}
 use Rattle.machine.specs.Turn.{turnOf, moveNumber, waitNumber}
+use Rattle.machine.specs.TurnLaws.{move-or-wait}
 use Rattle.machine.specs.TallyLaws.{weighed, turn-tallies}
 use Rattle.schedule.specs.Times.{times}
 use Rattle.schedule.specs.TimesLaws.{times-none, times-turn, times-append}
@@ -36,12 +35,8 @@ turnsOf s q = movesAt s q + waitsAt s q
 turn-named : (s : State) (p q : ℕ) → turnsOf (turnOf s p .state) q ≡ turnsOf s q + times q (acceptedTurn p (turnOf s p .outcome))
 turn-named s p q = omega (arith, turn-tallies s p q .0, turn-tallies s p q .1, go (turnOf s p .outcome))
   where
-    one : (how : Move) → pick (eqb p q) (moveNumber how) 0 + pick (eqb p q) (waitNumber how) 0 ≡ pick (eqb p q) 1 0
-    one (Moved c) = by-test (λ k. pick (eqb p q) 1 0 + k ≡ pick (eqb p q) 1 0) (eqb p q) (λ _. omega arith) (λ _. omega arith)
-    one Waited = by-test (λ k. k + pick (eqb p q) 1 0 ≡ pick (eqb p q) 1 0) (eqb p q) (λ _. omega arith) (λ _. omega arith)
-
     go : (o : Outcome) → pick (eqb p q) (weighed moveNumber o) 0 + pick (eqb p q) (weighed waitNumber o) 0 ≡ times q (acceptedTurn p o)
-    go (Made how) = one how ∙ omega (arith, times-turn q p [], times-none q)
+    go (Made how) = move-or-wait (eqb p q) how ∙ omega (arith, times-turn q p [], times-none q)
     go (Refused k) = by-test (λ k. k + k ≡ times q []) (eqb p q) (λ _. omega (arith, times-none q)) (λ _. omega (arith, times-none q))
 
 -- a run adds those that it made

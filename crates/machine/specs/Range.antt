@@ -57,15 +57,18 @@ taskZero t =
 abbrev pub tallyOk : ℕ → ℕ → ℕ → Bool
 tallyOk n q tally = pick (ltb q n) (leb tally maxTally) (eqb tally 0)
 
--- the task q, and its tallies: below N it is in range, and from N on all zero
-abbrev pub placeOk : State → ℕ → Bool
-placeOk s q =
-    pick (ltb q (s .n)) (taskOk s q (taskAt s q)) (taskZero (taskAt s q)) && (tallyOk (s .n) q (movesAt s q) && tallyOk (s .n) q (waitsAt s q))
+-- the task t as it must be at q: in range below N, and all zero from N on
+abbrev pub placeOk : State → ℕ → Task → Bool
+placeOk s q t = pick (ltb q (s .n)) (taskOk s q t) (taskZero t)
 
--- the tasks below m
+-- all that the state keeps of task q: the task, and its tallies
+abbrev pub eachOk : State → ℕ → Bool
+eachOk s q = placeOk s q (taskAt s q) && (tallyOk (s .n) q (movesAt s q) && tallyOk (s .n) q (waitsAt s q))
+
+-- of the tasks below m
 unfoldable pub tasksOk : State → ℕ → Bool
 tasksOk s zero = true
-tasksOk s (suc q) = tasksOk s q && placeOk s q
+tasksOk s (suc q) = tasksOk s q && eachOk s q
 
 -- only 0 is below 1
 abbrev pub allZero : List ℕ → Bool

@@ -19,7 +19,7 @@ use Rattle.lines.specs.Common.{maxCount}
 use Rattle.machine.specs.Setters.{taskAt, movesAt, waitsAt}
 use Rattle.machine.specs.Fresh.{modulusOk}
 use Rattle.bitset.specs.ChoiceLaws.{by-test}
-use Rattle.machine.specs.Range.{lastLine, fieldOk, listRoom, taskOk, taskZero, tallyOk, placeOk, tasksOk, parentsOk, stateOk, checkState, Valid}
+use Rattle.machine.specs.Range.{lastLine, fieldOk, listRoom, taskOk, taskZero, tallyOk, placeOk, eachOk, tasksOk, parentsOk, stateOk, checkState, Valid}
 
 -- ---- clause by clause
 
@@ -100,27 +100,24 @@ range-task s q t r =
       r .start,
     )
 
-tasks-at : (s : State) (m q : ℕ) → tasksOk s m ≡ true → q < m → placeOk s q ≡ true
+tasks-at : (s : State) (m q : ℕ) → tasksOk s m ≡ true → q < m → eachOk s q ≡ true
 unfolding tasksOk
 tasks-at s zero q e h = absurd (omega arith)
 tasks-at s (suc m) q e h = go (eq-or-lt-of-le (le-of-suc-le-suc h)) (and-eq-true-iff _ _ .0 e) (tasks-at s m q)
   where
-    go : (q ≡ m) ⊎ (q < m) → (tasksOk s m ≡ true) × (placeOk s m ≡ true) → (tasksOk s m ≡ true → q < m → placeOk s q ≡ true) → placeOk s q ≡ true
-    go (inl e) both ih = subst (λ (r : ℕ). placeOk s r ≡ true) (sym e) (both .1)
+    go : (q ≡ m) ⊎ (q < m) → (tasksOk s m ≡ true) × (eachOk s m ≡ true) → (tasksOk s m ≡ true → q < m → eachOk s q ≡ true) → eachOk s q ≡ true
+    go (inl e) both ih = subst (λ (r : ℕ). eachOk s r ≡ true) (sym e) (both .1)
     go (inr l) both ih = ih (both .0) l
 
-tasks-all : (s : State) (m : ℕ) → ((q : ℕ) → q < m → placeOk s q ≡ true) → tasksOk s m ≡ true
+tasks-all : (s : State) (m : ℕ) → ((q : ℕ) → q < m → eachOk s q ≡ true) → tasksOk s m ≡ true
 unfolding tasksOk
 tasks-all s zero f = refl
 tasks-all s (suc m) f = and-eq-true-iff _ _ .1 (tasks-all s m (λ q h. f q (omega arith)), f m (omega arith))
 
--- what the test of a place tells of its task, and of its tallies
-abbrev known : State → ℕ → Bool
-known s q = pick (ltb q (s .n)) (taskOk s q (taskAt s q)) (taskZero (taskAt s q))
-
-place-parts : (s : State) (q : ℕ) → placeOk s q ≡ true
-    → (known s q ≡ true) × (tallyOk (s .n) q (movesAt s q) ≡ true) × (tallyOk (s .n) q (waitsAt s q) ≡ true)
-place-parts s q e =
+-- what is tested of task q, part by part
+each-parts : (s : State) (q : ℕ) → eachOk s q ≡ true
+    → (placeOk s q (taskAt s q) ≡ true) × (tallyOk (s .n) q (movesAt s q) ≡ true) × (tallyOk (s .n) q (waitsAt s q) ≡ true)
+each-parts s q e =
     let both = and-eq-true-iff _ _ .0 e in
     let tallies = and-eq-true-iff _ _ .0 (both .1) in
     (both .0, tallies .0, tallies .1)
@@ -142,8 +139,8 @@ range s e = go (stateOk s) refl e
         let e1 = and-eq-true-iff _ _ .0 (e2 .0) in
         let n = is-count (s .n) (e1 .1) in
         let long = and-eq-true-iff _ _ .0 (e7 .1) in
-        let at : (q : ℕ) → q < 64 → (known s q ≡ true) × (tallyOk (s .n) q (movesAt s q) ≡ true) × (tallyOk (s .n) q (waitsAt s q) ≡ true)
-        = λ q h. place-parts s q (tasks-at s 64 q (e6 .1) h) in
+        let at : (q : ℕ) → q < 64 → (placeOk s q (taskAt s q) ≡ true) × (tallyOk (s .n) q (movesAt s q) ≡ true) × (tallyOk (s .n) q (waitsAt s q) ≡ true)
+        = λ q h. each-parts s q (tasks-at s 64 q (e6 .1) h) in
         record {
           kind = leb-true (s .kind) 3 (e1 .0);
           some = n .0;
@@ -174,7 +171,7 @@ valid s r =
       eq-eqb (length (s .waits)) 64 (r .waits .long),
     )
   where
-    place : (q : ℕ) → q < 64 → placeOk s q ≡ true
+    place : (q : ℕ) → q < 64 → eachOk s q ≡ true
     place q h =
         and-eq-true-iff _ _ .1 (
           by-test (λ b. b ≡ true) (ltb q (s .n)) (λ l. range-task s q (taskAt s q) (r .tasks q (ltb-true q (s .n) l))) (λ l. r .rest q (ltb-false q (s .n) l) h),

@@ -23,7 +23,7 @@ use Rattle.machine.specs.RangeLaws.{range, present}
 use Rattle.machine.specs.Least.{countOf, countsOf, least, closedBy}
 use Rattle.machine.specs.LeastLaws.{least-le, least-attained}
 use Rattle.machine.specs.Turn.{effectOf, movedTo, turnOf, closedNumber}
-use Rattle.machine.specs.TurnLaws.{turn-step, step-outcome, turn-moves, turn-makes, waited-tallied, moved-tallied, turn-constants, moved-n, stored-moved, turn-made, own-field, other-field}
+use Rattle.machine.specs.TurnLaws.{turn-answer, turn-moves, turn-makes, waited-tallied, moved-tallied, turn-constants, moved-n, stored-moved, turn-made, own-field, other-field}
 use Rattle.machine.specs.CountLaws.{kept-or-raised, turn-rises, turn-least}
 
 -- ---- the counts as they are lent
@@ -69,7 +69,7 @@ module _ (s : State) (p : ℕ) (ok : Valid s) (h : p < s .n) where
     -- but for the tallies, which have no counts
     after-turn : (q : ℕ) → countOf (turnOf s p .state) q ≡ countOf after q
     after-turn q =
-        ap (λ (r : Turned). countOf (r .state) q) (turn-made s p ok h how (sym (ap (λ (r : Turned). r .outcome) (turn-step s p ok h) ∙ step-outcome s p) ∙ made))
+        ap (λ (r : Turned). countOf (r .state) q) (turn-made s p ok h how (sym (turn-answer s p ok h) ∙ made))
         ∙ ap (λ (x : State). countOf x q) (stored-moved s p (effectOf s p) how)
 
     pub own-made : countOf (turnOf s p .state) p ≡ effectOf s p .task .count

@@ -23,7 +23,7 @@ use Rattle.machine.specs.Tally.{maxTally, tallied}
 use Rattle.machine.specs.Range.{Valid}
 use Rattle.machine.specs.RangeLaws.{Tallies, range}
 use Rattle.machine.specs.Turn.{effectOf, turnOf, moveNumber, waitNumber}
-use Rattle.machine.specs.TurnLaws.{Full, Makes, turn-makes, refused-still, waited-tallied, moved-tallied, written-tallies}
+use Rattle.machine.specs.TurnLaws.{move-le, wait-le, Full, Makes, turn-makes, refused-still, waited-tallied, moved-tallied, written-tallies}
 use Rattle.machine.specs.CountLaws.{Why, seven, eleven, thirteen, turn-why}
 
 -- ---- what a turn adds
@@ -70,16 +70,8 @@ module _ (s : State) (p : ℕ) where
 
 -- so no tally rises by more than one
 pub tallies-rise : (s : State) (p q : ℕ) → (movesAt (turnOf s p .state) q ≤ movesAt s q + 1) × (waitsAt (turnOf s p .state) q ≤ waitsAt s q + 1)
-tallies-rise s p q = (omega (arith, turn-tallies s p q .0, at-most moveNumber moved), omega (arith, turn-tallies s p q .1, at-most waitNumber waited))
+tallies-rise s p q = (omega (arith, turn-tallies s p q .0, at-most moveNumber move-le), omega (arith, turn-tallies s p q .1, at-most waitNumber wait-le))
   where
-    moved : (how : Move) → moveNumber how ≤ 1
-    moved (Moved c) = omega arith
-    moved Waited = omega arith
-
-    waited : (how : Move) → waitNumber how ≤ 1
-    waited (Moved c) = omega arith
-    waited Waited = omega arith
-
     at-most : (weight : Move → ℕ) → ((how : Move) → weight how ≤ 1) → pick (eqb p q) (weighed weight (turnOf s p .outcome)) 0 ≤ 1
     at-most weight light = by-test (λ k. k ≤ 1) (eqb p q) (λ _. go (turnOf s p .outcome)) (λ _. omega arith)
       where

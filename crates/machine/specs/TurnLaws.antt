@@ -1,6 +1,6 @@
 -- Laws of a turn over its definition: by cases, what it leaves as it was, what it never changes, and what it stores.
 use mathlib.Core.Path.{_≡_, refl, sym, ap, _∙_}
-use mathlib.Core.Bool.{false, true≢false}
+use mathlib.Core.Bool.{Bool, true, false, true≢false}
 use mathlib.Core.List.{List}
 use mathlib.Core.Logic.{_≢_, _⊎_, inl, inr}
 use Prim.Native.Nat.{ℕ, _+_, _-_, _≤_, _<_}
@@ -10,6 +10,7 @@ use lib.Dec.{eqb, ltb}
 use lib.ListN.{length, getD, set}
 use lib.Seq.{getD-set-same, getD-set-other, set-out, set-getD}
 use borrow.Author.Tests.{eq-eqb, lt-ltb, le-ltb, ltb-true, ltb-false, eqb-true}
+use Rattle.bitset.specs.Choice.{pick}
 use Rattle.bitset.specs.ChoiceLaws.{by-test}
 use Rattle.lines.specs.declared.Task.{Task}
 use Rattle.lines.specs.declared.Effect.{Effect}
@@ -92,10 +93,19 @@ module _ (s : State) (p : ℕ) where
   unfolding effectOf
   effect-does = does (sharedOf s) (tableOf s) p own seen
 
--- what the number of a turn that is made can be, and what it leaves of 1
-pub number-le : (how : Move) (k : ℕ) → k ≡ moveNumber how → k ≤ 1
-number-le (Moved c) k e = omega arith
-number-le Waited k e = omega arith
+-- a turn that is made is a move or a wait, by its numbers: each is 1 at most, and both together are 1
+pub move-le : (how : Move) → moveNumber how ≤ 1
+move-le (Moved c) = omega arith
+move-le Waited = omega arith
+
+pub wait-le : (how : Move) → waitNumber how ≤ 1
+wait-le (Moved c) = omega arith
+wait-le Waited = omega arith
+
+pub move-or-wait : (b : Bool) (how : Move) → pick b (moveNumber how) 0 + pick b (waitNumber how) 0 ≡ pick b 1 0
+move-or-wait true (Moved c) = refl
+move-or-wait true Waited = refl
+move-or-wait false how = refl
 
 wait-number : (how : Move) → 1 - moveNumber how ≡ waitNumber how
 wait-number (Moved c) = refl
@@ -112,6 +122,9 @@ step-state s p = refl
 pub step-outcome : (s : State) (p : ℕ) → stepOf s p .outcome ≡ answerOf s p (effectOf s p)
 unfolding stepOf
 step-outcome s p = refl
+
+pub turn-answer : (s : State) (p : ℕ) → Valid s → p < s .n → turnOf s p .outcome ≡ answerOf s p (effectOf s p)
+turn-answer s p ok h = ap (λ (r : Turned). r .outcome) (turn-step s p ok h) ∙ step-outcome s p
 
 -- the line's own outcome of a turn that is made, and the tally that the turn raises
 abbrev pub actOf : Move → Act
@@ -159,7 +172,7 @@ refused-by (Refuses j) closed m w k e = let same : j ≡ k = cc in inl (ap Refus
 -- a turn is answered moved where its line moves and its tally of moves is below the limit
 pub turn-moves : (s : State) (p : ℕ) → Valid s → p < s .n → effectOf s p .act ≡ Moves → movesAt s p < maxTally
     → turnOf s p .outcome ≡ Made (Moved (closedBy s (movedTo s p (effectOf s p .task) (effectOf s p .write))))
-turn-moves s p ok h e room = rw (turn-step s p ok h, step-outcome s p, e, lt-ltb (movesAt s p) maxTally room)
+turn-moves s p ok h e room = rw (turn-answer s p ok h, e, lt-ltb (movesAt s p) maxTally room)
 
 -- what is known of a turn that is made
 pub record Makes (s : State) (p : ℕ) (how : Move) : Type 0 where
@@ -178,7 +191,7 @@ turn-makes s p how =
 pub refusal-acts : (s : State) (p k : ℕ) → Valid s → p < s .n → turnOf s p .outcome ≡ Refused k
     → (effectOf s p .act ≡ Refuses k) ⊎ ((k ≡ 13) × Full (effectOf s p .act) (movesAt s p) (waitsAt s p))
 refusal-acts s p k ok h e =
-    refused-by (effectOf s p .act) _ (movesAt s p) (waitsAt s p) k (sym (ap (λ (r : Turned). r .outcome) (turn-step s p ok h) ∙ step-outcome s p) ∙ e)
+    refused-by (effectOf s p .act) _ (movesAt s p) (waitsAt s p) k (sym (turn-answer s p ok h) ∙ e)
 
 -- a turn whose line moves is answered moved, unless it is refused 13
 pub able-moves : (s : State) (p : ℕ) → Valid s → p < s .n → effectOf s p .act ≡ Moves → reasonNumber (turnOf s p .outcome) ≢ 13

@@ -6,8 +6,7 @@ use lines::Task;
 use parents::Checked;
 ghost use mathlib.Core.Path.{_≡_};
 ghost use Prim.Native.Nat.{min};
-ghost use lib.Dec.{eqb, ltb};
-ghost use Rattle.bitset.specs.Choice.{pick};
+ghost use lib.Dec.{eqb};
 ghost use Rattle.parents.specs.Parents.{checkNumber};
 ghost use Rattle.machine.specs.Range as defs;
 ghost use Rattle.machine.specs.Fresh.{isKind, modulusOk, allBelow};
@@ -147,7 +146,7 @@ impl State {
 
     // Whether the task at q is as it must be there: in range below N, and all zero from N on.
     fn place_ok(self, q: usize, task: Task) -> bool
-        ensures { λ r. ⌜ r ≡ pick (ltb q (self .n)) (defs.taskOk self q task) (defs.taskZero task) ⌝ }
+        ensures { λ r. ⌜ r ≡ defs.placeOk self q task ⌝ }
     {
         if q < self.n as usize {
             self.task_ok(q, task)

@@ -26,7 +26,7 @@ use Rattle.machine.specs.Range.{checkState, Valid}
 use Rattle.machine.specs.Least.{least}
 use Rattle.machine.specs.Setters.{movesAt, waitsAt}
 use Rattle.machine.specs.Turn.{turnOf, moveNumber, waitNumber, closedNumber}
-use Rattle.machine.specs.TurnLaws.{turn-constants}
+use Rattle.machine.specs.TurnLaws.{move-le, wait-le, move-or-wait, turn-constants}
 use Rattle.machine.specs.KeepLaws.{turn-valid}
 use Rattle.machine.specs.CountLaws.{turn-refusals}
 use Rattle.machine.specs.TallyLaws.{turn-tallies}
@@ -54,12 +54,7 @@ module _ (weight : Move → ℕ) where
 pub tallies-named : (rs : List Row) (q : ℕ) → movesIn rs q + waitsIn rs q ≡ times q (map (λ (r : Row). r .task) rs)
 unfolding tallyIn
 tallies-named [] q = sym (times-none q)
-tallies-named (r ∷ rs) q = omega (arith, tallies-named rs q, times-turn q (r .task) (map (λ (x : Row). x .task) rs), one (eqb (r .task) q) (r .how))
-  where
-    one : (b : Bool) (how : Move) → pick b (moveNumber how) 0 + pick b (waitNumber how) 0 ≡ pick b 1 0
-    one true (Moved c) = refl
-    one true Waited = refl
-    one false how = refl
+tallies-named (r ∷ rs) q = omega (arith, tallies-named rs q, times-turn q (r .task) (map (λ (x : Row). x .task) rs), move-or-wait (eqb (r .task) q) (r .how))
 
 -- ---- the log
 
@@ -80,18 +75,10 @@ tally-turns : (weight : Move → ℕ) → ((how : Move) → weight how ≤ 1) �
 tally-turns weight light s ts q = omega (arith, made-few s ts, tally-few weight light (traceOf s ts .made) q)
 
 pub moves-few : (s : State) (ts : List ℕ) (q : ℕ) → movesIn (traceOf s ts .made) q ≤ length ts
-moves-few = tally-turns moveNumber light
-  where
-    light : (how : Move) → moveNumber how ≤ 1
-    light (Moved c) = omega arith
-    light Waited = omega arith
+moves-few = tally-turns moveNumber move-le
 
 pub waits-few : (s : State) (ts : List ℕ) (q : ℕ) → waitsIn (traceOf s ts .made) q ≤ length ts
-waits-few = tally-turns waitNumber light
-  where
-    light : (how : Move) → waitNumber how ≤ 1
-    light (Moved c) = omega arith
-    light Waited = omega arith
+waits-few = tally-turns waitNumber wait-le
 
 -- ---- the turns made
 

@@ -13,7 +13,7 @@ use Rattle.machine.specs.declared.State.{State}
 use Rattle.machine.specs.Setters.{taskAt}
 use Rattle.machine.specs.Least.{countsOf, least}
 use Rattle.machine.specs.Turn.{effectOf, answerOf, reasonNumber}
-use Rattle.machine.specs.TurnLaws.{number-le, stored, stored-is, stored-own}
+use Rattle.machine.specs.TurnLaws.{move-le, stored, stored-is, stored-own}
 use Rattle.schedule.specs.Passes.{maxTurns}
 use Rattle.runner.proofs.Going as at
 use Rattle.runner.proofs.turns.Statement.{statement}
@@ -165,7 +165,7 @@ abbrev how : Made → Move
 how c = told c .outcome .given .0 .0
 
 byte-le : (c : Made) → c .number .result ≤ 1
-byte-le c = number-le (how c) (c .number .result) (c .number .ensures)
+byte-le c = rw (c .number .ensures) (move-le (how c))
 
 abbrev row : tie.After-store-count-arg Inv-loop μ-loop → tie.After-write-row Inv-loop μ-loop
 row c = c .before .before .before

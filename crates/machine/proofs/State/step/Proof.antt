@@ -14,7 +14,7 @@ use Rattle.machine.specs.Setters.{movesAt, waitsAt}
 use Rattle.machine.specs.Tally.{maxTally}
 use Rattle.machine.specs.Least.{countOf, closedBy}
 use Rattle.machine.specs.Turn.{effectOf, outcomeOf, movedTo, answerOf}
-use Rattle.machine.specs.TurnLaws.{number-le, stored, stored-is, step-made, step-refused}
+use Rattle.machine.specs.TurnLaws.{move-le, stored, stored-is, step-made, step-refused}
 use Rattle.machine.specs.TallyLaws.{moves-limit, waits-limit}
 use Rattle.machine.specs.RangeLaws.{range}
 use Rattle.machine.specs.KeepLaws.{place-known}
@@ -77,7 +77,7 @@ abbrev how : tie.After-number → Move
 how c = told c .outcome .given .0 .0
 
 byte-le : (c : tie.After-number) → c .number .result ≤ 1
-byte-le c = number-le (how c) (c .number .result) (c .number .ensures)
+byte-le c = rw (c .number .ensures) (move-le (how c))
 
 -- the task that is written to is there
 abbrev made : tie.After-place → tie.After-number
