@@ -23,7 +23,10 @@ pub struct Start {
 /// run's reason and number where there is a reason. Else the turn's number is 1 if it moved, and 0 if not; ready's is the least task that
 /// can move, or `NOBODY`. The number of passes is that of the pairs, or for reason 9 the place.
 ///
-/// A run tells the rounds that it closed, and a turn tells 1 if it closed one, else 0. The others tell none.
+/// A run tells the rounds that it closed, and a turn tells 1 if it closed one, else 0.
+///
+/// The number of a play-back is the index of the first triple that differs, else 0, and in place of rounds it tells 1 if the trace agrees, else 0.
+/// The others tell no rounds.
 #[derive(Clone, Copy, Debug, PartialEq, Eq)]
 pub struct Answer {
     pub reason: u8,

@@ -2,6 +2,7 @@
 
 use crate::answer::{Answer, Start, NOBODY, PAGE};
 use crate::compared::machine::{self, Ending, Outcome, Report, State, Tables};
+use crate::compared::playback::{self, Verdict};
 use crate::compared::refusal::Refusal;
 use crate::compared::{passes as cut, sheet as printed};
 
@@ -36,6 +37,16 @@ pub fn ready(start: &Start, log: &mut [u8]) -> Answer {
 
 pub fn passes(n: usize, schedule: &[u8], pairs: &mut [u32]) -> Answer {
     cut::passes(n as u64, schedule, pairs).map_or_else(refused, accepted)
+}
+
+pub fn play(start: &Start, trace: &[u8]) -> Answer {
+    let [kind, n, modulus] = [start.kind, start.n, start.modulus].map(|number| number as u64);
+    let tables = Tables { parents: &start.parents, starts: &start.starts };
+    match playback::play(&mut State::ZERO.clone(), kind, n, modulus, tables, trace) {
+        Ok(Verdict::Agrees) => Answer { rounds: 1, ..accepted(0) },
+        Ok(Verdict::Differs(index)) => accepted(index),
+        Err(refusal) => refused(refusal),
+    }
 }
 
 /// Gives the sheet's length. The page's bytes after the sheet are 0.

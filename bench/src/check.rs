@@ -6,6 +6,7 @@
 mod calls;
 mod cases;
 mod texts;
+mod traces;
 
 use crate::compared::random::Random;
 use calls::{Calls, Function};
@@ -15,11 +16,12 @@ use cases::Case;
 const ROUNDS: usize = 8;
 
 /// The reasons that each function can answer, 0 among them.
-const REASONS: [(Function, &[u8]); 5] = [
+const REASONS: [(Function, &[u8]); 6] = [
     (Function::Run, &[0, 2, 3, 4, 5, 6, 8, 9, 10, 12]),
     (Function::Turn, &[0, 2, 3, 4, 5, 6, 8, 9, 10, 12]),
     (Function::Ready, &[0, 2, 3, 4, 5, 6, 8, 9, 10, 12]),
     (Function::Passes, &[0, 3, 8, 9, 10]),
+    (Function::Play, &[0, 2, 3, 4, 5, 6, 8, 12, 14]),
     (Function::Sheet, &[0, 1, 2, 3, 4, 5, 6, 9]),
 ];
 
@@ -39,12 +41,15 @@ pub fn check() -> Result<String, String> {
     for text in texts::at_limits() {
         calls.sheet(&text)?;
     }
+    for (start, trace) in traces::at_limits() {
+        calls.play(&start, &trace)?;
+    }
     check_reasons(&calls)?;
-    check_rounds(&calls)?;
+    check_told(&calls)?;
     Ok(summary(&calls))
 }
 
-/// A case, one that is damaged, and the texts of both with one that is damaged as a text.
+/// A case, one that is damaged, and the texts and traces of both, with some that are damaged themselves.
 fn check_random(calls: &mut Calls, random: &mut Random, case: &Case) -> Result<(), String> {
     let damaged = cases::damaged(random, case);
     for case in [case, &damaged] {
@@ -52,6 +57,9 @@ fn check_random(calls: &mut Calls, random: &mut Random, case: &Case) -> Result<(
         let text = texts::text(random, &case.start);
         calls.sheet(&text)?;
         calls.sheet(&texts::damaged(random, text))?;
+        for trace in traces::all(random, &case.start) {
+            calls.play(&case.start, &trace)?;
+        }
     }
     Ok(())
 }
@@ -68,13 +76,15 @@ fn check_reasons(calls: &Calls) -> Result<(), String> {
     Ok(())
 }
 
-/// Runs and turns have told of closed rounds, and not all of them have.
-fn check_rounds(calls: &Calls) -> Result<(), String> {
-    for function in [Function::Run, Function::Turn] {
-        let (closed, made) = (calls.closed(function), calls.made(function));
-        if closed == 0 || closed == made {
-            let name = function.name();
-            return Err(format!("{name} has told of a closed round in {closed} of {made} calls"));
+/// Runs and turns have told of closed rounds, and play-backs of agreement, and not all of them have.
+fn check_told(calls: &Calls) -> Result<(), String> {
+    for function in [Function::Run, Function::Turn, Function::Play] {
+        let (told, accepted) = (calls.told(function), calls.accepted(function));
+        if told == 0 || told == accepted {
+            let (name, tells) = (function.name(), function.tells());
+            return Err(format!(
+                "{name}: {told} of {accepted} calls that were not refused {tells}"
+            ));
         }
     }
     Ok(())
@@ -83,9 +93,10 @@ fn check_rounds(calls: &Calls) -> Result<(), String> {
 fn summary(calls: &Calls) -> String {
     let counts = REASONS.map(|(function, reasons)| {
         let refusals: Vec<String> = reasons[1..].iter().map(u8::to_string).collect();
-        let (name, made, closed) = (function.name(), calls.made(function), calls.closed(function));
-        let closed = if closed > 0 { format!("; {closed} closed a round") } else { String::new() };
-        format!("{name} {made} calls (refused {}{closed})", refusals.join(" "))
+        let (name, made, told) = (function.name(), calls.made(function), calls.told(function));
+        let tells = function.tells();
+        let told = if told > 0 { format!("; {told} {tells}") } else { String::new() };
+        format!("{name} {made} calls (refused {}{told})", refusals.join(" "))
     });
     format!("the library answers as the second program: {}", counts.join(", "))
 }

@@ -59,6 +59,19 @@ mod raw {
             pairs_len: usize,
             number: *mut usize,
         ) -> u8;
+        pub fn tungwaff_play(
+            kind: usize,
+            n: usize,
+            modulus: usize,
+            parents: *const u8,
+            parents_len: usize,
+            starts: *const u8,
+            starts_len: usize,
+            trace: *const u8,
+            trace_len: usize,
+            agrees: *mut u8,
+            index: *mut usize,
+        ) -> u8;
         pub fn tungwaff_sheet(text: *const u8, text_len: usize, page: *mut [u8; PAGE]) -> usize;
     }
 }
@@ -123,6 +136,28 @@ pub fn passes(n: usize, schedule: &[u8], pairs: &mut [u32]) -> Answer {
         )
     };
     Answer { reason, number, rounds: 0 }
+}
+
+/// The schedule of the start is not looked at.
+pub fn play(start: &Start, trace: &[u8]) -> Answer {
+    let (mut number, mut agrees) = (UNTOLD, NO_ROUND);
+    // SAFETY: as above; the two numbers are lent to the call alone.
+    let reason = unsafe {
+        raw::tungwaff_play(
+            start.kind,
+            start.n,
+            start.modulus,
+            start.parents.as_ptr(),
+            start.parents.len(),
+            start.starts.as_ptr(),
+            start.starts.len(),
+            trace.as_ptr(),
+            trace.len(),
+            &mut agrees,
+            &mut number,
+        )
+    };
+    Answer { reason, number, rounds: agrees.into() }
 }
 
 /// Gives the sheet's length.

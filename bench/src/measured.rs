@@ -6,6 +6,9 @@ pub mod machine;
 #[path = "../../second/src/passes.rs"]
 pub mod passes;
 #[allow(dead_code)]
+#[path = "../../second/src/playback.rs"]
+pub mod playback;
+#[allow(dead_code)]
 #[path = "../../second/src/random.rs"]
 pub mod random;
 #[allow(dead_code)]

@@ -1,6 +1,6 @@
 //! The peak memory of each side: the highest resident size of a process that does one side's work alone.
 
-use crate::work::{self, Cut, Manner, Run, Sheet, Work, KINDS, TURNS};
+use crate::work::{self, Cut, Manner, Play, Run, Sheet, Work, KINDS, TURNS};
 use std::process::Command;
 
 /// The peak of a process of its own for the side, in KiB.
@@ -21,6 +21,7 @@ pub fn print_own(side: &str) {
     for (kind, _) in KINDS {
         cleared(&mut Run::new(kind, 64, Manner::Random.schedule(64, TURNS)), act);
         cleared(&mut Sheet::new(work::text(kind, 64, "")), act);
+        cleared(&mut Play::new(kind, 64, true), act);
     }
     cleared(&mut Cut::new(64, Manner::Random.schedule(64, TURNS)), act);
     println!("{}", own_peak());

@@ -3,13 +3,13 @@
 
 use crate::answer::{Answer, PAGE};
 use crate::library;
-use crate::work::{text, Manner, Run, KINDS, TURNS};
+use crate::work::{text, Manner, Play, Run, Work, KINDS, TURNS};
 use std::hint::black_box;
 use std::process::{Command, Stdio};
 use std::thread;
 
 /// The calls that are tried.
-pub const CALLS: [&str; 5] = ["sheet", "run", "turn", "ready", "passes"];
+pub const CALLS: [&str; 6] = ["sheet", "run", "turn", "ready", "passes", "play"];
 
 /// A stack that is left for every call, in KiB, and what a thread has beside it.
 const MOST: usize = 1024;
@@ -59,6 +59,10 @@ fn work(call: &str, kind: u8) -> Box<dyn FnMut() + Send> {
         "passes" => {
             let mut pairs = vec![0; 2 * TURNS];
             Box::new(move || accepted(library::passes(64, &start.schedule, &mut pairs)))
+        }
+        "play" => {
+            let mut play = Play::new(kind, 64, true);
+            Box::new(move || play.library())
         }
         _ => {
             let (text, mut page) = (text(kind, 64, ""), Box::new([0; PAGE]));

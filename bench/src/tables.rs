@@ -4,7 +4,7 @@ use crate::measure::{measure, median, Times};
 use crate::memory::peak;
 use crate::stack;
 use crate::targets::{self, verdict};
-use crate::work::{text, Cut, Manner, Run, Sheet, KINDS, TURNS};
+use crate::work::{text, Cut, Manner, Play, Run, Sheet, KINDS, TRIPLES, TURNS};
 
 const SIZES: [usize; 2] = [12, 64];
 
@@ -13,6 +13,7 @@ pub fn print(rounds: usize) {
     print_runs(rounds);
     print_growth(rounds);
     print_passes(rounds);
+    print_plays(rounds);
     print_sheets(rounds);
     print_memory();
 }
@@ -59,7 +60,7 @@ fn print_runs(rounds: usize) {
             let times = measure(&mut runs, rounds);
             for (place, (manner, times)) in Manner::ALL.into_iter().zip(times).enumerate() {
                 ratios[place].push(times.ratio());
-                let cells = per_turn(times);
+                let cells = each(TURNS, times);
                 row(&[&[name.into(), n.to_string(), manner.name().into()], &cells[..]].concat());
             }
         }
@@ -71,10 +72,10 @@ fn print_runs(rounds: usize) {
     println!();
 }
 
-/// Nanoseconds a turn of both sides, and their ratio.
-fn per_turn(times: Times) -> [String; 3] {
-    let turns = TURNS as f64;
-    [times.library / turns, times.baseline / turns, times.ratio()].map(tenths)
+/// Nanoseconds of both sides for each of so many turns or triples, and their ratio.
+fn each(count: usize, times: Times) -> [String; 3] {
+    let count = count as f64;
+    [times.library / count, times.baseline / count, times.ratio()].map(tenths)
 }
 
 /// The numbers of turns with N 12, and the numbers of tasks with the most turns.
@@ -84,7 +85,18 @@ const BY_N: [(usize, usize); 4] = [(1, TURNS), (4, TURNS), (16, TURNS), (64, TUR
 /// How the library's time a turn goes with the number of turns, and with N.
 fn print_growth(rounds: usize) {
     println!("The library's nanoseconds a turn: by turns with N 12, and by N with {TURNS} turns; then the longest time by N over the shortest, of random schedules from N 4 on:\n");
-    head(&["kind", "schedule", "1,024 turns", "8,192", "65,536", "N 1", "N 4", "N 16", "N 64", "over N"]);
+    head(&[
+        "kind",
+        "schedule",
+        "1,024 turns",
+        "8,192",
+        "65,536",
+        "N 1",
+        "N 4",
+        "N 16",
+        "N 64",
+        "over N",
+    ]);
     for (kind, name) in KINDS {
         for manner in Manner::ALL {
             let times = growth(kind, manner, rounds);
@@ -129,6 +141,30 @@ fn print_passes(rounds: usize) {
         }
     }
     row(&["highest", "", "", "", &verdict(highest(ratios), targets::PASSES)].map(String::from));
+    println!();
+}
+
+/// Play-backs of the longest traces: nanoseconds a triple.
+fn print_plays(rounds: usize) {
+    println!("The play-back of {TRIPLES} triples of a random schedule, nanoseconds a triple:\n");
+    head(&["kind", "N", "trace", "library", "baseline", "ratio"]);
+    let traces = [(false, "agrees"), (true, "differs at the last")];
+    let mut ratios = traces.map(|_| Vec::new());
+    for (kind, name) in KINDS {
+        for n in SIZES {
+            let mut plays = traces.map(|(differs, _)| Play::new(kind, n, differs));
+            let times = measure(&mut plays, rounds);
+            for (place, ((_, trace), times)) in traces.into_iter().zip(times).enumerate() {
+                ratios[place].push(times.ratio());
+                let cells = each(TRIPLES, times);
+                row(&[&[name.into(), n.to_string(), trace.into()], &cells[..]].concat());
+            }
+        }
+    }
+    for ((differs, trace), ratios) in traces.into_iter().zip(ratios) {
+        let verdict = verdict(median(ratios), targets::play(differs));
+        row(&["median over kinds", "", trace, "", "", &verdict].map(String::from));
+    }
     println!();
 }
 

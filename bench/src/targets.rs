@@ -15,6 +15,15 @@ pub fn run(manner: Manner) -> f64 {
 pub const PASSES: f64 = 1.2;
 pub const SHEET: f64 = 1.3;
 
+/// A play-back, median over the kinds: of a trace that agrees, and of one that differs at the last triple, whose part is run twice.
+pub fn play(differs: bool) -> f64 {
+    if differs {
+        5.0
+    } else {
+        3.0
+    }
+}
+
 /// A kind's longest time a turn by its shortest, over the numbers of tasks.
 pub fn flat(kind: u8) -> f64 {
     if kind == TREE {

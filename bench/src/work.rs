@@ -1,8 +1,9 @@
-//! What is measured: runs of schedules, their passes, and sheets of texts, each done by the library and by the baseline.
+//! What is measured: runs of schedules, their passes, play-backs of traces, and sheets of texts, each done by the library and by the baseline.
 
 use crate::answer::{Answer, Start, PAGE};
 use crate::library;
 use crate::measured::machine::{fresh, run, Ending, State, Tables, SYMMETRIC, TREE};
+use crate::measured::playback::{self, Verdict};
 use crate::measured::random::Random;
 use crate::measured::{passes, schedules, shapes, sheet};
 
@@ -143,6 +144,64 @@ impl Work for Cut {
 
     fn compare(&self) {
         assert!(self.ours.0.reason == 0 && self.ours == self.theirs, "the passes differ");
+    }
+}
+
+/// The play-back of a trace.
+pub struct Play {
+    start: Start,
+    trace: Vec<u8>,
+    ours: Answer,
+    theirs: Answer,
+}
+
+/// The most triples of a trace.
+pub const TRIPLES: usize = playback::MAX_TRACE / 3;
+
+impl Play {
+    /// The trace of so many turns as there can be triples, of a random schedule. With `differs` the outcome of the last one is another.
+    pub fn new(kind: u8, n: usize, differs: bool) -> Play {
+        let mut run = Run::new(kind, n, Manner::Random.schedule(n, TRIPLES));
+        run.baseline();
+        let rows = run.theirs.1.chunks_exact(2);
+        let mut trace: Vec<u8> = run
+            .start
+            .schedule
+            .iter()
+            .zip(rows)
+            .flat_map(|(&task, row)| [task, row[0], row[1]])
+            .collect();
+        if differs {
+            trace[3 * TRIPLES - 1] ^= 1;
+        }
+        Play { start: run.start, trace, ours: UNDONE, theirs: UNDONE }
+    }
+}
+
+impl Work for Play {
+    fn clear(&mut self) {
+        (self.ours, self.theirs) = (UNDONE, UNDONE);
+    }
+
+    fn library(&mut self) {
+        self.ours = library::play(&self.start, &self.trace);
+    }
+
+    fn baseline(&mut self) {
+        let Start { kind, n, modulus, parents, starts, .. } = &self.start;
+        let tables = Tables { parents, starts };
+        let (kind, n, modulus) = (*kind as u64, *n as u64, *modulus as u64);
+        let verdict =
+            playback::play(&mut State::ZERO.clone(), kind, n, modulus, tables, &self.trace);
+        self.theirs = match verdict {
+            Ok(Verdict::Agrees) => Answer { reason: 0, number: 0, rounds: 1 },
+            Ok(Verdict::Differs(number)) => Answer { reason: 0, number, rounds: 0 },
+            Err(_) => UNDONE,
+        };
+    }
+
+    fn compare(&self) {
+        assert!(self.ours.reason == 0 && self.ours == self.theirs, "the play-backs differ");
     }
 }
 

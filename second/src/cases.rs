@@ -7,6 +7,8 @@ mod fresh;
 mod limits;
 mod long;
 pub mod malformed;
+mod playback;
+mod plays;
 mod ranges;
 mod refusals;
 pub mod rounds;
@@ -37,7 +39,7 @@ pub fn write(folder: &Path) -> io::Result<usize> {
 }
 
 /// The stored cases.
-fn stored() -> Recorder {
+pub fn stored() -> Recorder {
     let mut recorder = Recorder::default();
     let mut random = Random::new(SEED);
     recorder.show();
@@ -49,6 +51,7 @@ fn stored() -> Recorder {
     starts::cases(&mut recorder);
     rounds::cases(&mut recorder);
     tallies::cases(&mut recorder);
+    playback::cases(&mut recorder);
     trees::cases(&mut recorder);
     malformed::cases(&mut recorder);
     long::cases(&mut recorder, &mut random);

@@ -210,14 +210,24 @@ fn step_with(
     }
     tally(&mut state.tasks[task].moves)?;
     let before = state.tasks[task].count;
-    match state.kind {
-        SYMMETRIC => symmetric(state, task),
-        FETCH_AND_INCREMENT => fetch_and_increment(state, task),
-        RING => ring(state, task),
-        _ => tree(state, task),
-    }
+    carry_out(state, task);
     let count = state.tasks[task].count;
     Ok(Outcome::Moved { closed: count > before && closes(state, count) })
+}
+
+/// A turn of one of the tasks of a state that is in range, made only if it moves or only if it
+/// waits. Gives whether it was made; where it wasn't, the state is as it was. It doesn't ask
+/// whether the least count rose.
+pub fn step_if(state: &mut State, task: usize, moves: bool) -> bool {
+    if check_step(state, task).is_err() || must_wait(state, task) == moves {
+        return false;
+    }
+    let own = &mut state.tasks[task];
+    let made = tally(if moves { &mut own.moves } else { &mut own.waits }).is_ok();
+    if made && moves {
+        carry_out(state, task);
+    }
+    made
 }
 
 /// The half of 7 that is due at a turn, then 11.
@@ -253,7 +263,9 @@ pub fn counting_line(kind: u8) -> u8 {
     }
 }
 
-/// Whether the task's line is an await whose condition is false.
+/// Whether the task's line is an await whose condition is false. Always inlined: it has several
+/// callers, and the loops of the run and the play-back are faster with it.
+#[inline(always)]
 fn must_wait(state: &State, task: usize) -> bool {
     let own = &state.tasks[task];
     match (state.kind, own.line) {
@@ -264,6 +276,17 @@ fn must_wait(state: &State, task: usize) -> bool {
         (TREE, 14) => state.tasks[usize::from(own.looked)].flag != 1,
         (TREE, 16) => task != 0 && own.flag != 0,
         _ => false,
+    }
+}
+
+/// Carries out the task's line, which doesn't have to wait. Always inlined, as the step is.
+#[inline(always)]
+fn carry_out(state: &mut State, task: usize) {
+    match state.kind {
+        SYMMETRIC => symmetric(state, task),
+        FETCH_AND_INCREMENT => fetch_and_increment(state, task),
+        RING => ring(state, task),
+        _ => tree(state, task),
     }
 }
 

@@ -5,23 +5,29 @@ mod cases;
 mod machine;
 mod parents;
 mod passes;
+mod play;
+mod playback;
+mod plays;
 mod random;
 mod recorder;
 mod refusal;
 mod requests;
 mod schedules;
 mod serve;
+mod setup;
 mod shapes;
 mod sheet;
 mod sheets;
 mod soak;
 mod spelling;
 mod starts;
+mod traces;
 
 #[cfg(test)]
 mod tests;
 
 use std::env;
+use std::fs::File;
 use std::io::{self, BufReader, BufWriter, Read, Write};
 use std::path::Path;
 use std::process::ExitCode;
@@ -32,6 +38,10 @@ usage:
   second answer                   answer the requests on standard input
   second sheet                    print the sheet of the text on standard input
   second sheets DIR               write the sheet texts to DIR/NAME.text, their sheets beside them
+  second play SETUP TRACE         play the trace of one file from the setup of another
+  second plays DIR                write setups, traces and what they show to DIR/NAME.setup,
+                                  DIR/NAME.trace and DIR/NAME.played
+  second traces                   print the named traces of kind 0 that have no start table
   second random SEED COUNT        print so many random requests
   second soak MINUTES COMMAND..   hold random requests against another program
 ";
@@ -63,6 +73,9 @@ fn command(arguments: &[&str]) -> Result<io::Result<bool>, &'static str> {
         ["answer"] => Ok(answer().map(|()| true)),
         ["sheet"] => Ok(sheet().map(|()| true)),
         ["sheets", folder] => Ok(sheets(Path::new(folder)).map(|()| true)),
+        ["play", setup, trace] => Ok(play(Path::new(setup), Path::new(trace)).map(|()| true)),
+        ["plays", folder] => Ok(plays(Path::new(folder)).map(|()| true)),
+        ["traces"] => Ok(print(&traces::table()).map(|()| true)),
         ["random", seed, count] => {
             let numbers = "SEED and COUNT are whole numbers";
             let seed = seed.parse().map_err(|_| numbers)?;
@@ -90,17 +103,26 @@ fn answer() -> io::Result<()> {
     serve::answer(input, output)
 }
 
-/// Reads no more of the text than shows that it is too long.
 fn sheet() -> io::Result<()> {
-    let mut text = Vec::new();
-    let most = sheet::MAX_TEXT as u64 + 1;
-    io::stdin().lock().take(most).read_to_end(&mut text)?;
-    io::stdout().write_all(sheet::sheet(&text).as_bytes())
+    let text = read(io::stdin().lock(), sheet::MAX_TEXT)?;
+    print(&sheet::sheet(&text))
 }
 
 fn sheets(folder: &Path) -> io::Result<()> {
     let count = sheets::write(folder)?;
     println!("{count} texts");
+    Ok(())
+}
+
+fn play(setup: &Path, trace: &Path) -> io::Result<()> {
+    let setup = read(open(setup)?, sheet::MAX_TEXT)?;
+    let trace = read(open(trace)?, playback::MAX_TRACE)?;
+    print(&play::play(&setup, &trace))
+}
+
+fn plays(folder: &Path) -> io::Result<()> {
+    let count = plays::write(folder)?;
+    println!("{count} plays");
     Ok(())
 }
 
@@ -113,4 +135,20 @@ fn random(seed: u64, count: usize) -> io::Result<()> {
         output.write_all(line)?;
     }
     output.flush()
+}
+
+/// Opens a file; the error names it.
+fn open(path: &Path) -> io::Result<File> {
+    File::open(path).map_err(|error| io::Error::other(format!("{}: {error}", path.display())))
+}
+
+/// Reads the whole input, and of one that is longer than this no more than shows that it is.
+fn read(input: impl Read, most: usize) -> io::Result<Vec<u8>> {
+    let mut bytes = Vec::new();
+    input.take(most as u64 + 1).read_to_end(&mut bytes)?;
+    Ok(bytes)
+}
+
+fn print(text: &str) -> io::Result<()> {
+    io::stdout().write_all(text.as_bytes())
 }

@@ -2,6 +2,7 @@
 
 use super::machine::{State, Tables, SYMMETRIC, TREE};
 use super::requests::{field_value, Replay};
+use super::setup::Setup;
 
 #[derive(Default)]
 pub struct Recorder {
@@ -64,6 +65,11 @@ impl Recorder {
         let lengths = [tables.parents, tables.starts].map(|table| table.len() as u64);
         let numbers = [10, kind, n, modulus, lengths[0], lengths[1], 0];
         self.ask(line(&numbers, &[tables.parents, tables.starts].concat()));
+    }
+
+    /// Request 10 of a setup.
+    pub fn fresh_setup(&mut self, setup: &Setup) {
+        self.fresh_with(setup.kind, setup.n, setup.modulus, setup.tables());
     }
 
     /// Request 10 of a symmetric barrier with R 3 and these starts.
@@ -138,6 +144,12 @@ impl Recorder {
     /// Request 9.
     pub fn shape(&mut self, shape: u64, n: u64, table: u64) {
         self.ask(line(&[9, shape, n, table], &[]));
+    }
+
+    /// Request 11.
+    pub fn play(&mut self, setup: &Setup, trace: &[u8]) {
+        let numbers = [&[11][..], &setup.head()].concat();
+        self.ask(line(&numbers, &[&setup.entries()[..], trace].concat()));
     }
 }
 

@@ -11,7 +11,8 @@ pub const MAX_TURNS: usize = 65_536;
 /// Why a call is turned away.
 #[derive(Clone, Copy, Debug, PartialEq, Eq)]
 pub enum Refusal {
-    /// 1: the sheet's text is too long, has another byte, too long a number or too few numbers.
+    /// 1: the text of a sheet or of a setup is too long, has another byte, too long a number, or
+    /// not the numbers it needs.
     Text,
     /// 2: the kind, or the shape, isn't 0 to 3.
     Kind,
@@ -25,7 +26,7 @@ pub enum Refusal {
     Parent,
     /// 7: a field is out of range, or a task arrives where all have arrived.
     Range,
-    /// 8: the schedule has too many turns.
+    /// 8: the schedule has too many turns, or the trace too many bytes.
     ScheduleLength,
     /// 9: a single turn names no task.
     Task,
@@ -39,6 +40,8 @@ pub enum Refusal {
     Starts,
     /// 13: the turn would raise a tally that is at its limit.
     TallyLimit,
+    /// 14: the trace's length is no multiple of three.
+    TraceLength,
 }
 
 impl Refusal {
@@ -58,6 +61,7 @@ impl Refusal {
             Refusal::CountLimit => 11,
             Refusal::Starts => 12,
             Refusal::TallyLimit => 13,
+            Refusal::TraceLength => 14,
         }
     }
 }

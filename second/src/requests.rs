@@ -2,6 +2,7 @@
 
 use super::machine::{fresh, ready, run, turn, Ending, Outcome, Report, State, Tables, Task};
 use super::passes::{first_pass, passes};
+use super::playback::play;
 use super::shapes::shape;
 use std::fmt::{Display, Write};
 
@@ -14,6 +15,7 @@ const MAX_DIGITS: usize = 20;
 /// The most entries of each part of a request.
 const MAX_REQUEST_TURNS: usize = 70_000;
 const MAX_REQUEST_TABLE: usize = 4_096;
+const MAX_REQUEST_TRACE: usize = 70_000;
 const MAX_LOG: u64 = 131_072;
 const MAX_LIST: u64 = 131_072;
 const MAX_TABLE: u64 = 4_096;
@@ -65,6 +67,9 @@ impl Replay {
             [10, kind, n, modulus, parents, starts, 0, entries @ ..] => {
                 self.fresh_with_tables([*kind, *n, *modulus], [*parents, *starts], entries)
             }
+            [11, kind, n, modulus, parents, starts, 0, entries @ ..] => {
+                self.play([*kind, *n, *modulus], [*parents, *starts], entries)
+            }
             _ => None,
         }
     }
@@ -82,10 +87,25 @@ impl Replay {
         lengths: [u64; 2],
         entries: &[u64],
     ) -> Option<String> {
-        let (parents, rest) = first_table(entries, lengths[0])?;
-        let (starts, rest) = first_table(rest, lengths[1])?;
+        let ([parents, starts], rest) = first_tables(entries, lengths)?;
         let tables = Tables { parents: &parents, starts: &starts };
         rest.is_empty().then(|| self.fresh(head, tables))
+    }
+
+    /// Request 11: the entries are a parent and a start table of these lengths, then the trace.
+    fn play(
+        &mut self,
+        [kind, n, modulus]: [u64; 3],
+        lengths: [u64; 2],
+        entries: &[u64],
+    ) -> Option<String> {
+        let ([parents, starts], rest) = first_tables(entries, lengths)?;
+        let tables = Tables { parents: &parents, starts: &starts };
+        let trace = bytes(rest, MAX_REQUEST_TRACE)?;
+        Some(match play(&mut self.state, kind, n, modulus, tables, &trace) {
+            Ok(verdict) => verdict.to_string(),
+            Err(refusal) => refusal.to_string(),
+        })
     }
 
     /// A fresh state of a kind, N and R; it is kept.
@@ -297,6 +317,13 @@ fn bytes(numbers: &[u64], most: usize) -> Option<Vec<u8>> {
         return None;
     }
     numbers.iter().map(|&number| byte(number)).collect()
+}
+
+/// The first entries as a parent and a start table of so many bytes, and the entries after them.
+fn first_tables(entries: &[u64], lengths: [u64; 2]) -> Option<([Vec<u8>; 2], &[u64])> {
+    let (parents, rest) = first_table(entries, lengths[0])?;
+    let (starts, rest) = first_table(rest, lengths[1])?;
+    Some(([parents, starts], rest))
 }
 
 /// The first entries as a table of so many bytes, and the entries after it.

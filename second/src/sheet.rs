@@ -1,4 +1,5 @@
-//! The sheet: a text of numbers in, the table of a whole run or a refusal out.
+//! The sheet: a text of numbers in, the table of a whole run or a refusal out. The reading of the
+//! text is the setup's of a play too.
 
 use super::machine::{fresh, least_count, run, Ending, Report, State, Tables, TREE};
 use super::passes::Passes;
@@ -38,8 +39,8 @@ fn whole_run(text: &[u8]) -> Result<String, Refusal> {
     }
 }
 
-/// Check 1, and the numbers of the text.
-fn numbers(text: &[u8]) -> Result<Vec<u64>, Refusal> {
+/// Check 1 but for how many numbers there are, and the numbers of the text.
+pub fn numbers(text: &[u8]) -> Result<Vec<u64>, Refusal> {
     let known = |&byte: &u8| byte.is_ascii_digit() || byte == b' ' || byte == b'\n';
     if text.len() > MAX_TEXT || !text.iter().all(known) {
         return Err(Refusal::Text);
@@ -59,8 +60,8 @@ fn number(digits: &[u8]) -> Result<u64, Refusal> {
     Ok(digits.iter().fold(0, append))
 }
 
-/// The numbers as bytes. One that is too large becomes 255, which is no parent and no task.
-fn bytes(numbers: &[u64]) -> Vec<u8> {
+/// The numbers as bytes. One that is too large becomes 255, which is no parent, start or task.
+pub fn bytes(numbers: &[u64]) -> Vec<u8> {
     numbers.iter().map(|&number| number.min(255) as u8).collect()
 }
 

@@ -7,7 +7,7 @@ mod order;
 mod reading;
 mod small;
 mod tables;
-mod texts;
+pub mod texts;
 mod turns;
 
 use super::random::Random;

@@ -1,7 +1,9 @@
-//! Tests: the scope's cases and traps, the refusals, starts, rounds, tallies, all reachable states
-//! of small barriers, and the texts of the sheet and the replay.
+//! Tests: the scope's cases and traps, the refusals, starts, rounds, tallies, play-back, all
+//! reachable states of small barriers, and the texts of the sheet, the play and the replay.
 
 mod calls;
+mod playback;
+mod plays;
 mod reach;
 mod refusals;
 mod rounds;

@@ -13,6 +13,7 @@ pub enum Function {
     Turn,
     Ready,
     Passes,
+    Play,
     Sheet,
 }
 
@@ -23,16 +24,25 @@ impl Function {
             Function::Turn => "tungwaff_turn",
             Function::Ready => "tungwaff_ready",
             Function::Passes => "tungwaff_passes",
+            Function::Play => "tungwaff_play",
             Function::Sheet => "tungwaff_sheet",
+        }
+    }
+
+    /// What a call that tells something besides its number has done.
+    pub fn tells(self) -> &'static str {
+        match self {
+            Function::Play => "agreed",
+            _ => "closed a round",
         }
     }
 }
 
-/// The calls made: for each function the number of those that answered each reason, and of those that told of a closed round.
+/// The calls made: for each function the number of those that answered each reason, and of those that told of a closed round or of agreement.
 #[derive(Default)]
 pub struct Calls {
-    answered: [BTreeMap<u8, usize>; 5],
-    closed: [usize; 5],
+    answered: [BTreeMap<u8, usize>; 6],
+    told: [usize; 6],
 }
 
 impl Calls {
@@ -46,9 +56,14 @@ impl Calls {
         self.answered[function as usize].keys().copied().collect()
     }
 
-    /// The calls of a function that told of a closed round.
-    pub fn closed(&self, function: Function) -> usize {
-        self.closed[function as usize]
+    /// The calls of a function that were not refused.
+    pub fn accepted(&self, function: Function) -> usize {
+        self.answered[function as usize].get(&0).copied().unwrap_or(0)
+    }
+
+    /// The calls of a function that told of a closed round or of agreement.
+    pub fn told(&self, function: Function) -> usize {
+        self.told[function as usize]
     }
 
     /// The four functions that take a schedule.
@@ -75,7 +90,7 @@ impl Calls {
     ) -> Result<(), String> {
         let ours = lend(LOG, case.log, |log| library(&case.start, log));
         let theirs = lend(LOG, case.log, |log| baseline(&case.start, log));
-        self.closed[function as usize] += usize::from(theirs.0.rounds > 0);
+        self.told[function as usize] += usize::from(theirs.0.rounds > 0);
         self.compare(function, ours, theirs, |answer| answer.reason, case)
     }
 
@@ -84,6 +99,21 @@ impl Calls {
         let ours = lend(PAIRS, case.pairs, |pairs| library::passes(n, schedule, pairs));
         let theirs = lend(PAIRS, case.pairs, |pairs| baseline::passes(n, schedule, pairs));
         self.compare(Function::Passes, ours, theirs, |answer| answer.reason, case)
+    }
+
+    pub fn play(&mut self, start: &Start, trace: &[u8]) -> Result<(), String> {
+        let ours = library::play(start, trace);
+        let theirs = baseline::play(start, trace);
+        self.told[Function::Play as usize] += usize::from(theirs.rounds > 0);
+        let none = Vec::<u8>::new;
+        let input = (start, trace);
+        self.compare(
+            Function::Play,
+            (ours, none()),
+            (theirs, none()),
+            |answer| answer.reason,
+            &input,
+        )
     }
 
     pub fn sheet(&mut self, text: &[u8]) -> Result<(), String> {

@@ -5,7 +5,7 @@ use mathlib.Core.Logic.{_≢_}
 use Prim.Native.Nat.{ℕ, zero, suc, _≤_}
 use native.Mathlib.Omega.{arith}
 use Rattle.machine.specs.declared.State.{State}
-use Rattle.machine.specs.Fresh.{Inputs, freshReason, freshOf}
+use Rattle.machine.specs.Fresh.{Inputs, freshReason, freshState, freshOf}
 use Rattle.machine.specs.FreshLaws.{accepted-inputs, fresh-accepted, fresh-valid}
 use Rattle.machine.specs.Range.{Valid}
 use Rattle.machine.specs.Turn.{turnOf, reasonNumber}
@@ -13,7 +13,10 @@ use Rattle.machine.specs.CountLaws.{seven-of-kind-1}
 use Rattle.barrier.specs.Barrier.{Holds}
 use Rattle.barrier.specs.Moves.{keeps-all}
 use Rattle.increment.specs.Safe.{never-7}
-use Rattle.guarantee.specs.Calls.{Call, after, afterAll, counted, countedAll, Reached, fresh, called}
+use Rattle.playback.specs.Playback.{triplesOf, playReason, playOf}
+use Rattle.playback.specs.PlaybackLaws.{play-accepted, play-keeps}
+use Rattle.playback.specs.Claims.{fresh-first}
+use Rattle.guarantee.specs.Calls.{Call, turn, after, afterAll, counted, countedAll, Reached, fresh, called}
 use Rattle.guarantee.specs.Turns.{afterTurns, Leads, leads-call, leads-all}
 use Rattle.guarantee.specs.Instance.{barrierOf}
 
@@ -50,6 +53,13 @@ known-after s cs r = known-led s (afterAll s cs) (countedAll s cs) (leads-all s 
 -- it is in range
 pub reached-valid : (s : State) → Reached s → Valid s
 reached-valid s r = known s r .inv .valid
+
+-- 02, P4: so is the state that a play-back gives, unless it is refused; what is said of reached states holds of it
+pub played-reached : (i : Inputs) (trace : List ℕ) → playReason i trace ≡ 0 → Reached (playOf i trace .state)
+played-reached i trace e =
+    let z = fresh-first i trace e in
+    rw (play-accepted i trace e)
+    (play-keeps Reached (λ s p r. called s r (turn p)) (freshState i) 0 (triplesOf trace) (subst Reached (fresh-accepted i z) (fresh i z)))
 
 -- 01, reason 7: "at a turn, the task is at 13 of kind 1 with arrivals already N, which no fresh state leads to"
 pub reached-7 : (s : State) (p : ℕ) → Reached s → reasonNumber (turnOf s p .outcome) ≢ 7

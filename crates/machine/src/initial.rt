@@ -125,22 +125,24 @@ fn padded(parents: &[u8]) -> [u8; 64]
     all
 }
 
-// What a refused fresh state gives.
-fn zero_state() -> State
-    ensures { λ r. ⌜ r ≡ defs.zeroState ⌝ }
-{
-    let parents = zero_table();
-    let tasks = zero_tasks();
-    State {
-        kind: 0,
-        n: 0,
-        modulus: 0,
-        arrivals: 0,
-        sense: 0,
-        parents,
-        moves: [0; 64],
-        waits: [0; 64],
-        tasks,
+impl State {
+    // The state whose fields are all 0: what a refused fresh state gives.
+    pub fn zero() -> Self
+        ensures { λ r. ⌜ r ≡ defs.zeroState ⌝ }
+    {
+        let parents = zero_table();
+        let tasks = zero_tasks();
+        State {
+            kind: 0,
+            n: 0,
+            modulus: 0,
+            arrivals: 0,
+            sense: 0,
+            parents,
+            moves: [0; 64],
+            waits: [0; 64],
+            tasks,
+        }
     }
 }
 
@@ -170,7 +172,7 @@ impl Setup {
         let reason = self.reason(parents, starts);
         if reason != 0 {
             return Fresh {
-                state: zero_state(),
+                state: State::zero(),
                 reason,
             };
         }

@@ -151,6 +151,20 @@ made-tasks s (p ∷ ts) = go (turnOf s p .outcome) (made-tasks (turnOf s p .stat
     go (Made how) ih = ap (λ (l : List ℕ). p ∷ l) ih
     go (Refused k) ih = refl
 
+-- they alone lead to the same state
+pub trace-stays : (s : State) (ts : List ℕ) → traceOf s (take (length (traceOf s ts .made)) ts) .state ≡ traceOf s ts .state
+unfolding traceOf
+trace-stays s [] = refl
+trace-stays s (p ∷ ts) = go (turnOf s p .outcome) refl (trace-stays (turnOf s p .state) ts)
+  where
+    rest : Trace
+    rest = traceOf (turnOf s p .state) ts
+
+    go : (o : Outcome) → turnOf s p .outcome ≡ o → traceOf (turnOf s p .state) (take (length (rest .made)) ts) .state ≡ rest .state
+        → traceOf s (take (length (turned s p o rest .made)) (p ∷ ts)) .state ≡ turned s p o rest .state
+    go (Made how) e ih = rw e ih
+    go (Refused k) e ih = refl
+
 -- 02, P3: "In the progress rule a turn refused 13 isn't counted"
 pub stop-13 : (p : ℕ) → countedStop (refusal p 13) ≡ []
 stop-13 p = refl

@@ -8,6 +8,7 @@ ghost use mathlib.Core.Path.{_≡_};
 ghost use lib.ListN.{length};
 ghost use Rattle.schedule.specs.Passes.{passesAnswer, passesReason, pairsAfter};
 ghost use Rattle.machine.specs.Fresh.{inputsOf};
+ghost use Rattle.playback.specs.Playback.{playOf, verdictReason, verdictAgrees, verdictIndex};
 ghost use Rattle.sheet_text.specs.Print.{sheetOf, pageOf};
 ghost use Rattle.tungwaff.specs.Entry.{inputsFrom, wholeRunOf, wholeRunLog, thenTurnReason, thenTurnNumber, thenTurnClosed, thenReadyReason, thenReadyNumber, passesNumber};
 
@@ -162,6 +163,30 @@ pub extern "C" fn tungwaff_passes(
     let answer = schedule::passes(n, schedule, pairs);
     *number = numbers::passes_number(answer);
     numbers::passes_reason(answer)
+}
+
+// Plays a trace from a fresh state with these tables of parents and starts. Answers the reason that refused it, 0 if it was not refused. `agrees` is 1
+// if every triple is what the defined turn does, else 0; `index` is that of the first triple that is not, from 0, and 0 where none is told.
+#[no_mangle]
+pub extern "C" fn tungwaff_play(
+    kind: usize,
+    n: usize,
+    modulus: usize,
+    parents: &[u8],
+    starts: &[u8],
+    trace: &[u8],
+    agrees: &mut u8,
+    index: &mut usize,
+) -> u8
+    ensures { λ r. ⌜ r ≡ verdictReason (playOf (inputsFrom kind n modulus (now (parents .entry)) (now (starts .entry))) (now (trace .entry)) .verdict) ⌝ }
+    ensures { λ _. ⌜ now (agrees .exit) ≡ verdictAgrees (playOf (inputsFrom kind n modulus (now (parents .entry)) (now (starts .entry))) (now (trace .entry)) .verdict) ⌝ }
+    ensures { λ _. ⌜ now (index .exit) ≡ verdictIndex (playOf (inputsFrom kind n modulus (now (parents .entry)) (now (starts .entry))) (now (trace .entry)) .verdict) ⌝ }
+{
+    let played = playback::play(Setup { kind, n, modulus }, parents, starts, trace);
+    let verdict = played.verdict;
+    *agrees = numbers::verdict_agrees(verdict);
+    *index = numbers::verdict_index(verdict);
+    numbers::verdict_reason(verdict)
 }
 
 // Prints the sheet of a text to the page, with zeros after it, and answers how many bytes it has.

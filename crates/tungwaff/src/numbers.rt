@@ -2,12 +2,14 @@
 use machine::Move;
 use machine::Outcome;
 use machine::Ready;
+use playback::Verdict;
 use runner::Ending;
 use schedule::answer::Passes;
 ghost use mathlib.Core.Path.{_≡_};
 ghost use Rattle.machine.specs.Turn.{closedNumber, reasonNumber};
 ghost use Rattle.machine.specs.Ready.{readyReason, readyNumber};
 ghost use Rattle.runner.specs.Run.{endingReason};
+ghost use Rattle.playback.specs.Playback.{verdictReason, verdictAgrees, verdictIndex};
 ghost use Rattle.schedule.specs.Passes.{passesReason};
 ghost use Rattle.tungwaff.specs.Entry as defs;
 
@@ -114,5 +116,38 @@ pub(crate) fn passes_number(passes: Passes) -> usize
     match passes {
         Passes::Count(count) => count,
         Passes::Refused(_, place) => place,
+    }
+}
+
+// The reason that refused a play-back.
+pub(crate) fn verdict_reason(verdict: Verdict) -> u8
+    ensures { λ r. ⌜ r ≡ verdictReason verdict ⌝ }
+{
+    match verdict {
+        Verdict::Agrees => 0,
+        Verdict::Differs(_) => 0,
+        Verdict::Refused(reason) => reason,
+    }
+}
+
+// 1 for a trace that agrees, else 0.
+pub(crate) fn verdict_agrees(verdict: Verdict) -> u8
+    ensures { λ r. ⌜ r ≡ verdictAgrees verdict ⌝ }
+{
+    match verdict {
+        Verdict::Agrees => 1,
+        Verdict::Differs(_) => 0,
+        Verdict::Refused(_) => 0,
+    }
+}
+
+// The index of the first triple that differs; 0 where none is told.
+pub(crate) fn verdict_index(verdict: Verdict) -> usize
+    ensures { λ r. ⌜ r ≡ verdictIndex verdict ⌝ }
+{
+    match verdict {
+        Verdict::Agrees => 0,
+        Verdict::Differs(index) => index,
+        Verdict::Refused(_) => 0,
     }
 }

@@ -13,6 +13,7 @@ use machine::Ready;
 use machine::Setup;
 use machine::State;
 use parents::Shaped;
+use playback::Verdict;
 use runner::Ending;
 use schedule::answer::Passes;
 
@@ -106,28 +107,58 @@ fn change(state: State, field: u64, task: usize, value: u64) -> Answered {
     }
 }
 
-// A fresh state with its tables one after the other: so many parents, and then the starts.
-fn fresh_from(line: Line, tables: &[u8], parents: usize) -> Answered {
-    let setup = Setup {
+// The kind, N and R of a request.
+fn setup_of(line: Line) -> Setup {
+    Setup {
         kind: line.head[1] as usize,
         n: line.head[2] as usize,
         modulus: line.head[3] as usize,
-    };
+    }
+}
+
+// A fresh state with its tables one after the other: so many parents, and then the starts.
+fn fresh_from(line: Line, tables: &[u8], parents: usize) -> Answered {
     fresh(
-        setup,
+        setup_of(line),
         print::part(tables, 0, parents),
         print::part(tables, parents, tables.len()),
     )
 }
 
+fn verdict(found: Verdict) -> Said {
+    match found {
+        Verdict::Agrees => Said::Plain(Word::Agrees),
+        Verdict::Differs(index) => Said::Differs(index),
+        Verdict::Refused(reason) => Said::Refused(reason),
+    }
+}
+
+// A play-back, with its tables and the trace one after the other: so many parents, so many starts, and then the trace.
+fn play(line: Line, entries: &[u8]) -> Answered {
+    let parents = line.head[4] as usize;
+    let starts = line.head[5] as usize;
+    let rest = print::part(entries, parents, entries.len());
+    let played = playback::play(
+        setup_of(line),
+        print::part(entries, 0, parents),
+        print::part(rest, 0, starts),
+        print::part(rest, starts, rest.len()),
+    );
+    let state = played.state;
+    let found = played.verdict;
+    let said = verdict(found);
+    Answered { state, said }
+}
+
 // The requests that answer no list.
-fn brief(state: State, ask: u64, line: Line, tables: &[u8]) -> Answered {
+fn brief(state: State, ask: u64, line: Line, tail: &[u8]) -> Answered {
     let a = line.head[1];
     let b = line.head[2];
     let c = line.head[3];
     match ask {
-        1 => fresh_from(line, tables, tables.len()),
-        10 => fresh_from(line, tables, line.head[4] as usize),
+        1 => fresh_from(line, tail, tail.len()),
+        10 => fresh_from(line, tail, line.head[4] as usize),
+        11 => play(line, tail),
         2 => turn(state, a as usize),
         3 => ready(state),
         6 => change(state, a, b as usize, c),
@@ -242,7 +273,7 @@ fn shape(shape: usize, n: usize, len: usize, out: &mut Output, at: usize) -> usi
     shape_on(shape, n, &mut table[0..len], out, at)
 }
 
-// The answer to a line, with no line feed. Its tables or turns stand in `tail`.
+// The answer to a line, with no line feed. Its tables, turns or trace stand in `tail`.
 pub(crate) fn answer(
     state: State,
     line: Line,

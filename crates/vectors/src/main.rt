@@ -10,6 +10,7 @@
 //     8 N PLACE T..             the first pass from a place            its length and its bytes
 //     9 SHAPE N TABLELEN        a shape, to a table of bytes 255       ok or refused K, the table
 //     10 KIND N R NP NS NW P.. S.. W..    as 1, with so many parents, starts and work lengths (none of these last: NW is 0)
+//     11 KIND N R NP NS NW P.. S.. W.. B..    a play-back of the bytes B, what it returns is kept    agrees, differs I, or refused K
 //
 // Any other line is answered `bad line` and changes nothing. Standard input is read in blocks. Their bytes go one by one to the line that is being
 // read (text.rt); a line feed ends it, and it is told which request it is (request.rt) and answered (answer.rt, fields.rt). The answers are gathered
@@ -22,7 +23,6 @@ mod text;
 
 use answer::Printed;
 use libc::STDIN_FILENO;
-use machine::Setup;
 use machine::State;
 use print::Output;
 use print::ROOM;
@@ -38,15 +38,9 @@ struct Replay {
     more: bool,
 }
 
-// The state is all zeros, as a refused fresh state is.
+// The state is all zeros.
 fn start() -> Replay {
-    let setup = Setup {
-        kind: 4,
-        n: 0,
-        modulus: 0,
-    };
-    let fresh = setup.fresh(&[], &[]);
-    let state = fresh.state;
+    let state = State::zero();
     Replay {
         state,
         line: text::empty(),

@@ -12,6 +12,7 @@ pub enum Word {
     Nobody,
     Done,
     Spent,
+    Agrees,
 }
 
 pub enum Said {
@@ -24,6 +25,8 @@ pub enum Said {
     Refused(u8),
     // Refused for 9, with the place of the first turn that is no task.
     RefusedAt(usize),
+    // The index of the first triple that differs.
+    Differs(usize),
 }
 
 // One byte. A full buffer is written out first.
@@ -66,6 +69,7 @@ fn plain(word: Word, out: &mut Output, at: usize) -> usize {
         Word::Nobody => text(b"none", out, at),
         Word::Done => text(b"done", out, at),
         Word::Spent => text(b"spent", out, at),
+        Word::Agrees => text(b"agrees", out, at),
     }
 }
 
@@ -78,6 +82,7 @@ pub(crate) fn say(answer: Said, out: &mut Output, at: usize) -> usize {
         Said::Stopped(reason) => counted(b"stopped ", reason as u64, out, at),
         Said::Refused(reason) => counted(b"refused ", reason as u64, out, at),
         Said::RefusedAt(place) => counted(b"refused 9 place ", place as u64, out, at),
+        Said::Differs(index) => counted(b"differs ", index as u64, out, at),
     }
 }
 

@@ -8,7 +8,7 @@ pub(crate) fn head_of(ask: u64) -> usize {
         2 => 2,
         4 | 7 | 8 => 3,
         1 | 6 | 9 => 4,
-        10 => 7,
+        10 | 11 => 7,
         _ => 0,
     }
 }
@@ -16,18 +16,23 @@ pub(crate) fn head_of(ask: u64) -> usize {
 // The most entries of a table.
 pub const MOST_TABLE: usize = 4096;
 
-// The most entries of tables or turns after them.
+// The most turns of a schedule, and the most bytes of a trace.
+const MOST_TURNS: usize = 70000;
+
+// The most entries of tables, turns and traces after them.
 fn most_after(ask: u64) -> usize {
     match ask {
         1 => MOST_TABLE,
-        4 | 7 | 8 => 70000,
+        4 | 7 | 8 => MOST_TURNS,
         10 => 2 * MOST_TABLE,
+        11 => 2 * MOST_TABLE + MOST_TURNS,
         _ => 0,
     }
 }
 
-// Whether a request of a fresh state with tables has just the entries that their lengths say. No table of work lengths is taken.
-fn tables_fit(line: Line) -> bool {
+// Whether a request with tables has the entries that their lengths say, and after them no more than so many bytes of a trace. No table of work
+// lengths is taken.
+fn tables_fit(line: Line, trace: u64) -> bool {
     let parents = line.head[4];
     let starts = line.head[5];
     let work = line.head[6];
@@ -37,10 +42,15 @@ fn tables_fit(line: Line) -> bool {
     if (MOST_TABLE as u64) < starts {
         return false;
     }
-    (work == 0) & (line.count as u64 == 7 + parents + starts)
+    let tables = 7 + parents + starts;
+    let count = line.count as u64;
+    if count < tables {
+        return false;
+    }
+    (work == 0) & (count - tables <= trace)
 }
 
-// The number of the request; 0 for a line with too few or too many numbers, or with an entry of a table or a turn that is no byte.
+// The number of the request; 0 for a line with too few or too many numbers, or with an entry of a table, a turn or a byte of a trace above 255.
 pub(crate) fn asked(line: Line) -> u64 {
     let ask = line.head[0];
     let head = head_of(ask);
@@ -56,8 +66,10 @@ pub(crate) fn asked(line: Line) -> u64 {
     if head < line.wide {
         return 0;
     }
-    if ask == 10 {
-        return if tables_fit(line) { 10 } else { 0 };
-    }
-    ask
+    let fits = match ask {
+        10 => tables_fit(line, 0),
+        11 => tables_fit(line, MOST_TURNS as u64),
+        _ => true,
+    };
+    if fits { ask } else { 0 }
 }

@@ -63,10 +63,14 @@ pub fn misspelt(recorder: &mut Recorder, random: &mut Random) {
 /// A request of random numbers, a few with zeros before them.
 fn any_line(random: &mut Random) -> String {
     let length = random.length(1, 8);
-    let mut numbers = vec![random.below(12)];
+    let mut numbers = vec![random.below(13)];
     for _ in 1..length {
         let number = if random.once_in(3) { near(random) } else { random.below(5) };
         numbers.push(number.min(1 << 32));
+    }
+    // A play-back of kind 0 is left to the plays, which know when to give a start table.
+    if numbers.starts_with(&[11, 0]) {
+        numbers[1] = 2;
     }
     if matches!(numbers[0], 4 | 7 | 9) {
         let last = numbers.len().min(if numbers[0] == 9 { 4 } else { 3 }) - 1;
@@ -79,15 +83,20 @@ fn any_line(random: &mut Random) -> String {
     words.collect::<Vec<_>>().join(" ")
 }
 
-/// Request 10 with lengths of tables that may be wrong, and about as many entries as they say.
+/// Request 10 or 11 with lengths of tables that may be wrong, and about as many entries as they
+/// say.
 fn any_tables(random: &mut Random) -> String {
     let lengths = [0; 3].map(|_| if random.once_in(6) { near(random) } else { random.below(4) });
     let works = if random.once_in(4) { lengths[2] } else { 0 };
     let modulus = random.pick(&[0, 3]);
-    let mut numbers = vec![10, random.below(4), random.length(1, 3) as u64, modulus];
+    let n = random.length(1, 3) as u64;
+    let (mut numbers, trace) = match random.below(3) {
+        0 => (vec![11, 1 + random.below(3), n, modulus], 3 * random.below(3)),
+        _ => (vec![10, random.below(4), n, modulus], 0),
+    };
     numbers.extend([lengths[0], lengths[1], works]);
     let entries = [lengths[0], lengths[1], works].map(|length| length % 256 % 70);
-    for _ in 0..near_length(random, entries.iter().sum()) {
+    for _ in 0..near_length(random, entries.iter().sum::<u64>() + trace) {
         numbers.push(if random.once_in(20) { near(random) } else { random.below(3) });
     }
     line(&numbers, &[])

@@ -1,15 +1,16 @@
-//! Random fresh states: accepted ones, and ones that may be refused.
+//! Random fresh states and setups: accepted ones, and ones that may be refused.
 
 use super::values::{near, near_length};
-use crate::machine::{Tables, SYMMETRIC, TREE};
+use crate::machine::{SYMMETRIC, TREE};
 use crate::parents;
 use crate::random::Random;
 use crate::recorder::Recorder;
 use crate::schedules::uniform;
+use crate::setup::Setup;
 use crate::starts;
 
-/// A fresh state that is accepted, by request 10 where it has starts, and now and then elsewhere.
-pub fn accepted_fresh(recorder: &mut Recorder, random: &mut Random, kind: u8, n: usize) {
+/// A setup that is accepted.
+pub fn accepted_setup(random: &mut Random, kind: u8, n: usize) -> Setup {
     let modulus = match kind {
         SYMMETRIC => random.pick(&[3, 3, 4, 5, 7, 254, 255]),
         _ => 0,
@@ -22,31 +23,42 @@ pub fn accepted_fresh(recorder: &mut Recorder, random: &mut Random, kind: u8, n:
         SYMMETRIC => starts::any(random, n),
         _ => Vec::new(),
     };
-    if starts.is_empty() && !random.once_in(4) {
-        recorder.fresh(kind.into(), n as u64, modulus, &parents);
+    Setup { kind: kind.into(), n: n as u64, modulus, parents, starts }
+}
+
+/// A fresh state that is accepted, by request 10 where it has starts, and now and then elsewhere.
+pub fn accepted_fresh(recorder: &mut Recorder, random: &mut Random, kind: u8, n: usize) {
+    let setup = accepted_setup(random, kind, n);
+    if setup.starts.is_empty() && !random.once_in(4) {
+        recorder.fresh(setup.kind, setup.n, setup.modulus, &setup.parents);
     } else {
-        let tables = Tables { parents: &parents, starts: &starts };
-        recorder.fresh_with(kind.into(), n as u64, modulus, tables);
+        recorder.fresh_setup(&setup);
     }
 }
 
 /// Fresh states that may be refused.
 pub fn any_fresh(recorder: &mut Recorder, random: &mut Random) {
     for _ in 0..random.length(1, 8) {
-        let kind = random.below(5);
-        let n = if random.once_in(3) { near(random) } else { random.below(7) };
-        let fits = if kind == 0 { 3 } else { 0 };
-        let modulus = if random.once_in(3) { near(random) } else { fits };
-        let parents = any_parents(random, kind, n);
+        let setup = any_setup(random);
         if random.once_in(2) {
-            recorder.fresh(kind, n, modulus, &parents);
+            recorder.fresh(setup.kind, setup.n, setup.modulus, &setup.parents);
         } else {
-            let starts = any_starts(random, kind, n);
-            recorder.fresh_with(kind, n, modulus, Tables { parents: &parents, starts: &starts });
+            recorder.fresh_setup(&setup);
         }
         recorder.ready();
     }
     recorder.show();
+}
+
+/// A setup that may be refused.
+pub fn any_setup(random: &mut Random) -> Setup {
+    let kind = random.below(5);
+    let n = if random.once_in(3) { near(random) } else { random.below(7) };
+    let fits = if kind == 0 { 3 } else { 0 };
+    let modulus = if random.once_in(3) { near(random) } else { fits };
+    let parents = any_parents(random, kind, n);
+    let starts = any_starts(random, kind, n);
+    Setup { kind, n, modulus, parents, starts }
 }
 
 /// A parent table whose length or one of whose entries may be wrong.

@@ -4,6 +4,7 @@ use crate::machine::{Tables, RING, TREE};
 use crate::recorder::{line, Recorder};
 use crate::requests::MAX_LINE;
 use crate::schedules::{cycle, repeat};
+use crate::setup::Setup;
 
 pub fn cases(recorder: &mut Recorder) {
     recorder.fresh(RING.into(), 3, 0, &[]);
@@ -17,6 +18,7 @@ pub fn cases(recorder: &mut Recorder) {
     entries(recorder);
     buffers(recorder);
     long_schedules(recorder);
+    long_traces(recorder);
     long_tables(recorder);
     tables_and_lengths(recorder);
     huge_lengths(recorder);
@@ -97,13 +99,25 @@ fn largest_numbers(recorder: &mut Recorder) {
         recorder.ask(format!("10 {number} 2 3 0 0 0"));
         recorder.ask(format!("10 0 {number} 3 0 0 0"));
         recorder.ask(format!("10 0 2 {number} 0 0 0"));
+        largest_number_of_a_play(recorder, number);
     }
     recorder.show();
 }
 
+/// The number at every place of request 11.
+fn largest_number_of_a_play(recorder: &mut Recorder, number: &str) {
+    for before in ["", "2 ", "2 2 ", "2 2 0 ", "2 2 0 0 ", "2 2 0 0 0 ", "2 2 0 0 0 0 "] {
+        recorder.ask(format!("11 {before}{number}"));
+        recorder.ask(format!("11 {before}{number} 0 0"));
+    }
+    recorder.ask(format!("11 {number} 2 0 0 0 0"));
+    recorder.ask(format!("11 2 {number} 0 0 0 0"));
+    recorder.ask(format!("11 2 2 {number} 0 0 0"));
+}
+
 /// Requests that there aren't.
 fn unknown_requests(recorder: &mut Recorder) {
-    for request in [0, 11, 12, 15, 255, 256, 257, 259, 266, 1 << 32, u64::MAX] {
+    for request in [0, 12, 13, 15, 255, 256, 257, 259, 266, 267, 1 << 32, u64::MAX] {
         for numbers in [&[][..], &[0], &[0, 0], &[1, 2, 0], &[2, 2, 0, 0], &[2, 2, 0, 0, 0, 0]] {
             recorder.ask(line(&[&[request], numbers].concat(), &[]));
         }
@@ -113,7 +127,7 @@ fn unknown_requests(recorder: &mut Recorder) {
 
 /// Each request with too few numbers, enough and too many.
 fn lengths(recorder: &mut Recorder) {
-    for request in 1..=10 {
+    for request in 1..=11 {
         for length in 0..=7 {
             let numbers = [request, 0, 0, 0, 0, 0, 0, 0];
             recorder.ask(line(&numbers[..=length], &[]));
@@ -134,7 +148,7 @@ fn lengths(recorder: &mut Recorder) {
     recorder.show();
 }
 
-/// Turns, parents and starts of 255 and 256.
+/// Turns, parents, starts and trace bytes of 255 and 256.
 fn entries(recorder: &mut Recorder) {
     for entry in [254, 255, 256, 257, 1 << 32, u64::MAX] {
         recorder.ask(line(&[1, 3, 2, 0, 0, entry], &[]));
@@ -152,6 +166,15 @@ fn entries(recorder: &mut Recorder) {
         recorder.ask(line(&[10, 0, 2, 3, 0, 2, 0, 1, entry], &[]));
         recorder.ask(line(&[10, 0, 2, 3, 0, 2, 0, entry, 1], &[]));
         recorder.ask(line(&[10, 4, 0, 0, 1, 1, 0, 0, entry], &[]));
+        recorder.ask(line(&[11, 3, 2, 0, 2, 0, 0, 0, entry, 0, 11, 1], &[]));
+        recorder.ask(line(&[11, 0, 2, 3, 0, 2, 0, entry, 1, 0, 11, 1], &[]));
+        for place in 7..10 {
+            let mut numbers = [11, 2, 2, 0, 0, 0, 0, 0, 11, 1];
+            numbers[place] = entry;
+            recorder.ask(line(&numbers, &[]));
+        }
+        recorder.ask(line(&[11, 4, 0, 0, 0, 0, 0, entry], &[]));
+        recorder.ready();
     }
     recorder.show();
 }
@@ -181,6 +204,17 @@ fn long_schedules(recorder: &mut Recorder) {
     recorder.show();
 }
 
+/// Traces of 70,000 bytes and 70,001; the start table is wrong too, and 12 comes before 8.
+fn long_traces(recorder: &mut Recorder) {
+    let starts = vec![0, 2];
+    let setup = Setup { kind: 0, n: 2, modulus: 3, parents: Vec::new(), starts };
+    for length in [70_000, 70_001] {
+        recorder.fresh(RING.into(), 2, 0, &[]);
+        recorder.play(&setup, &repeat(0, length));
+        recorder.ready();
+    }
+}
+
 /// Parent and start tables of 4,096 entries and 4,097.
 fn long_tables(recorder: &mut Recorder) {
     for length in [4_095, 4_096, 4_097, 4_098] {
@@ -199,13 +233,32 @@ fn long_tables(recorder: &mut Recorder) {
     let table = &repeat(0, 4_096)[..];
     recorder.fresh_with(TREE.into(), 64, 0, Tables { parents: table, starts: table });
     recorder.show();
+    for length in [4_096, 4_097] {
+        long_tables_of_a_play(recorder, repeat(0, length));
+    }
 }
 
-/// Request 10 with more and fewer numbers than its lengths say, and just as many.
+/// The table as the parents of a tree and as the starts of a symmetric barrier.
+fn long_tables_of_a_play(recorder: &mut Recorder, table: Vec<u8>) {
+    let tree = Setup { kind: 3, n: 64, modulus: 0, parents: table.clone(), starts: Vec::new() };
+    let symmetric = Setup { kind: 0, n: 64, modulus: 3, parents: Vec::new(), starts: table };
+    for setup in [tree, symmetric] {
+        recorder.fresh(RING.into(), 2, 0, &[]);
+        recorder.play(&setup, &[0, 11, 1]);
+        recorder.ready();
+    }
+}
+
+/// Request 10 with more and fewer numbers than its lengths say, and just as many; the numbers that
+/// are more are the trace of request 11.
 fn tables_and_lengths(recorder: &mut Recorder) {
     for [parents, starts] in [[0, 0], [0, 1], [0, 2], [0, 3], [1, 0], [2, 0], [2, 2], [3, 1]] {
         for entries in 0..=6 {
             let numbers = [10, 0, 2, 3, parents, starts, 0];
+            recorder.fresh(RING.into(), 2, 0, &[]);
+            recorder.ask(line(&numbers, &repeat(1, entries)));
+            recorder.ready();
+            let numbers = [11, 2, 2, 0, parents, starts, 0];
             recorder.fresh(RING.into(), 2, 0, &[]);
             recorder.ask(line(&numbers, &repeat(1, entries)));
             recorder.ready();
@@ -218,10 +271,14 @@ fn tables_and_lengths(recorder: &mut Recorder) {
     recorder.show();
     recorder.ask("10 3 2 0 2 0 0 0 0");
     recorder.show();
+    for text in ["11 3 2 0 2 0 0", "11 3 2 0 2 0 0 0", "11 3 2 0 2 0 0 0 0 1", "11 2 2 0 0 0"] {
+        recorder.ask(text);
+        recorder.ready();
+    }
 }
 
-/// Request 10 with lengths that its numbers can't have; some are small once they are cut to 32 or
-/// 8 bits.
+/// Requests 10 and 11 with lengths that their numbers can't have; some are small once they are cut
+/// to 32 or 8 bits.
 fn huge_lengths(recorder: &mut Recorder) {
     let (half, most) = (1 << 63, u64::MAX);
     recorder.fresh(RING.into(), 3, 0, &[]);
@@ -231,24 +288,29 @@ fn huge_lengths(recorder: &mut Recorder) {
             recorder.ask(line(&[10, 0, 2, 3, 0, length, 0], &repeat(0, entries)));
             recorder.ask(line(&[10, 0, 2, 3, 0, 0, length], &repeat(0, entries)));
             recorder.ask(line(&[10, 0, 2, 3, length, length, length], &repeat(0, entries)));
+            recorder.ask(line(&[11, 0, 2, 3, length, 0, 0], &repeat(0, entries)));
+            recorder.ask(line(&[11, 0, 2, 3, 0, length, 0], &repeat(0, entries)));
+            recorder.ask(line(&[11, 2, 2, 0, 0, 0, length], &repeat(0, entries)));
         }
     }
     recorder.show();
 }
 
-/// Request 10 with lengths whose sum is small once it is cut to 64 bits.
+/// Requests 10 and 11 with lengths whose sum is small once it is cut to 64 bits.
 fn huge_sums(recorder: &mut Recorder) {
     let (half, most) = (1 << 63, u64::MAX);
     for lengths in [[half, half, 0], [most, 3, 0], [3, most, 0], [most, 1, 0], [1, most, 0]] {
         for entries in 0..=3 {
-            let numbers = [&[10, 0, 2, 3][..], &lengths].concat();
-            recorder.ask(line(&numbers, &repeat(0, entries)));
+            for request in [10, 11] {
+                let numbers = [&[request, 0, 2, 3][..], &lengths].concat();
+                recorder.ask(line(&numbers, &repeat(0, entries)));
+            }
         }
     }
     recorder.show();
 }
 
-/// Request 10 with a work table, of which there is none yet.
+/// Requests 10 and 11 with a work table, of which there is none yet.
 fn work_tables(recorder: &mut Recorder) {
     recorder.fresh(RING.into(), 3, 0, &[]);
     for works in [1, 2, 3, 4, 64] {
@@ -256,6 +318,10 @@ fn work_tables(recorder: &mut Recorder) {
         recorder.ask(line(&[10, 0, 2, 3, 0, 2, works], &repeat(1, works as usize + 2)));
         recorder.ask(line(&[10, 3, 2, 0, 2, 0, works], &repeat(0, works as usize + 2)));
         recorder.ask(line(&[10, 0, 2, 3, 0, 2, works, 0, 0], &[]));
+        recorder.ask(line(&[11, 2, 2, 0, 0, 0, works], &repeat(1, works as usize)));
+        recorder.ask(line(&[11, 2, 2, 0, 0, 0, works], &repeat(1, works as usize + 3)));
+        recorder.ask(line(&[11, 0, 2, 3, 0, 2, works], &repeat(1, works as usize + 2)));
+        recorder.ask(line(&[11, 2, 2, 0, 0, 0, works, 0, 11, 1], &[]));
     }
     recorder.show();
 }

@@ -4,6 +4,7 @@ use super::calls::{any_first_pass, any_passes, any_shape, misspelt};
 use super::damage::{damage, damage_for_a_while, state_in_range};
 use super::damage::{near_full_tallies, near_the_limit, spread_counts};
 use super::fresh::{accepted_fresh, any_fresh};
+use super::plays::{any_plays, long_play, plays_without_starts};
 use super::steps::{any_run, turn_of_ready, turn_of_someone};
 use super::values::{any_task_count, near_length, TASK_COUNTS};
 use crate::passes::Passes;
@@ -31,7 +32,7 @@ pub fn stored_runs(recorder: &mut Recorder, random: &mut Random) {
 
 /// Scenes of every sort.
 pub fn stored_scenes(recorder: &mut Recorder, random: &mut Random) {
-    for _ in 0..280 {
+    for _ in 0..295 {
         scene(recorder, random);
     }
 }
@@ -49,17 +50,18 @@ fn damaged_run(recorder: &mut Recorder, random: &mut Random) {
 /// At least so many random requests.
 pub fn requests(recorder: &mut Recorder, random: &mut Random, count: usize) {
     while recorder.count() < count {
-        if random.once_in(400) {
-            long_schedule(recorder, random);
-        } else {
-            scene(recorder, random);
+        match random.below(400) {
+            0 => long_schedule(recorder, random),
+            1 | 2 => long_play(recorder, random),
+            3..=12 => plays_without_starts(recorder, random),
+            _ => scene(recorder, random),
         }
     }
 }
 
 /// One random scene.
 fn scene(recorder: &mut Recorder, random: &mut Random) {
-    match random.below(19) {
+    match random.below(21) {
         0..=4 => life(recorder, random),
         5..=7 => state_in_range(recorder, random),
         8 | 9 => near_the_limit(recorder, random),
@@ -70,6 +72,7 @@ fn scene(recorder: &mut Recorder, random: &mut Random) {
         14 => misspelt(recorder, random),
         15 => spread_counts(recorder, random),
         16 | 17 => near_full_tallies(recorder, random),
+        18 | 19 => any_plays(recorder, random),
         _ => many_turns(recorder, random),
     }
 }

@@ -2,7 +2,7 @@
 //! with tallies of 0.
 
 use super::{begin, begin_any, number, play};
-use crate::machine::{counting_line, in_range, ready, run, turn, Ending, Outcome, State};
+use crate::machine::{counting_line, in_range, ready, run, step_if, turn, Ending, Outcome, State};
 use crate::machine::{FETCH_AND_INCREMENT, MAX_COUNT, MAX_TALLY, RING, SYMMETRIC, TREE};
 use crate::random::Random;
 use crate::refusal::Refusal;
@@ -217,6 +217,31 @@ fn turns_and_ready_with_any_tallies() {
         assert_eq!(ready(&state), Ok(moving));
     }
     assert!([0, 7, 11, 13].iter().all(|&number| refused[number] > 1_000), "{refused:?}");
+}
+
+/// A turn that is made only if it moves, or only if it waits, is the turn or changes nothing.
+#[test]
+fn turns_made_on_a_condition() {
+    let mut random = Random::new(9);
+    let mut made = [[0; 2]; 2];
+    for _ in 0..10_000 {
+        let mut state = any_state(&mut random);
+        fill(&mut random, &mut state);
+        for task in 0..usize::from(state.n) {
+            let (answer, after) = expected(&state, task);
+            for moves in [false, true] {
+                let fits = match answer {
+                    Ok(outcome) => (outcome != Outcome::Waited) == moves,
+                    Err(_) => false,
+                };
+                let mut next = state;
+                assert_eq!(step_if(&mut next, task, moves), fits);
+                assert_eq!(next, if fits { after } else { state });
+                made[usize::from(moves)][usize::from(fits)] += 1;
+            }
+        }
+    }
+    assert!(made.concat().iter().all(|&times| times > 1_000), "{made:?}");
 }
 
 /// The answers to the turns up to the first that is refused, and what a log of 120 bytes must hold.

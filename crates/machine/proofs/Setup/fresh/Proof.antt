@@ -44,7 +44,7 @@ filled c = c .before .before .before
 
 returns : tie.Need-returns
 unfolding freshOf
-returns c = rw (← c .before .before .reason .ensures, ne-eqb _ 0 (c .before .if1 .taken), c .zero-state .ensures)
+returns c = rw (← c .before .before .reason .ensures, ne-eqb _ 0 (c .before .if1 .taken), c .zero .ensures)
 
 padded-requires : tie.Need-padded-requires
 padded-requires c κs = parents-fit (eqb (inputs c .kind) 3) _ (inputs c .n) (inputs c .parents) (accepts c .few) refl (accepts c .parents)
