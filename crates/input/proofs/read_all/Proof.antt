@@ -1,4 +1,4 @@
--- `sheet::read_text` meets its contract. The loop's invariant: what has been read stands in the buffer.
+-- `read_all` meets its contract. The loop's invariant: what has been read stands in the buffer.
 use borrow.Author.Needs.{needs}
 use borrow.Rule.Slice.PartMut.{putMid, same-len-mid}
 use mathlib.Core.Path.{_≡_, refl, _∙_}
@@ -6,18 +6,18 @@ use mathlib.Core.List.{List}
 use Prim.Native.Nat.{ℕ, _+_, _-_, _≤_}
 use native.Mathlib.Omega.{arith}
 use lib.ListN.{length, take, drop, length-take, length-drop}
-use Rattle.sheet.proofs.read_text.Statement.{statement}
-use Rattle.sheet.proofs.read_text.Tie as tie
+use Rattle.input.proofs.read_all.Statement.{statement}
+use Rattle.input.proofs.read_all.Tie as tie
 
 -- bytes that were counted in a part from `at` on end within the whole
 counted : (n at k : ℕ) (xs : List ℕ) → n ≤ length (take k (drop at xs)) → at ≤ length xs → at + n ≤ length xs
 counted n at k xs h l = omega (arith, length-take k (drop at xs), length-drop at xs)
 
 abbrev Inv-loop : tie.InvT-loop
-Inv-loop buf₀ at₀ buf at = (at ≤ length buf) × (length buf ≡ length buf₀)
+Inv-loop fd buf₀ at₀ buf at = (at ≤ length buf) × (length buf ≡ length buf₀)
 
 abbrev μ-loop : tie.MeasureT-loop
-μ-loop buf₀ at₀ buf at = length buf - at
+μ-loop fd buf₀ at₀ buf at = length buf - at
 
 -- ---- the buffer once it was read into
 
@@ -73,8 +73,8 @@ loop-again c = let r = read (c .before) in (there (c .before), long r ∙ test r
 same-length-3 : tie.Need-same-length-3 Inv-loop μ-loop
 same-length-3 c = c .before .loop .inv .1
 
-pub read-text-spec : {M : Type 1} → statement M
-read-text-spec =
+pub read-all-spec : {M : Type 1} → statement M
+read-all-spec =
     tie.close
     (tie.spec Inv-loop μ-loop loop-holds (λ c. search needs) (λ c. search needs) (λ c. search needs)
     (λ c κs. search needs) same-length (λ c. search needs) (λ c. search needs) (λ c. search needs) (λ c. search needs)
