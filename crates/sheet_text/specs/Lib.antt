@@ -1,4 +1,4 @@
--- The sheet: what a text says (`Read`), what is printed of it (`Print`), the numbers of what `passes` answers (`Cut`), and what the steps between leave (`Steps`); then the laws.
+-- The sheet: what a text says (`Read`), what is printed of it (`Print`), the numbers of what `passes` answers (`Cut`), and what is printed of a run (`Steps`); then the laws.
 pub mod Read
 pub mod Print
 pub mod Cut

@@ -1,9 +1,10 @@
 -- From the five things to the printed lines (01, "The sheet program").
 use mathlib.Core.List.{List, [], _∷_, _++_}
-use Prim.Native.Nat.{ℕ, zero, suc, _+_, _-_, _/_, _%_}
-use lib.Dec.{eqb, ltb}
+use Prim.Native.Nat.{ℕ, zero, suc, _-_}
+use lib.Dec.{eqb}
 use lib.ListN.{length, replicate}
 use Rattle.bitset.specs.Choice.{pick}
+use Rattle.text.specs.Decimal.{decimal, spaced}
 use Rattle.schedule.specs.Passes.{passesOf}
 use Rattle.machine.specs.Setters.{taskAt}
 use Rattle.machine.specs.Fresh.{freshOf}
@@ -11,21 +12,6 @@ use Rattle.machine.specs.Least.{least}
 use Rattle.runner.specs.Trace.{Trace, traceOf}
 use Rattle.runner.specs.Run.{movesIn, waitsIn}
 use Rattle.sheet_text.specs.Read.{Five, Reading, five, refused, readOf}
-
--- a number of at most k digits in decimal, with no needless zero
-unfoldable pub decimalIn : ℕ → ℕ → List ℕ
-decimalIn zero x = []
-decimalIn (suc k) x =
-    let above = decimalIn k (x / 10) in
-    pick (ltb x 10) [] above ++ (48 + x % 10) ∷ []
-
--- a number below 10 ^ 20, so every one of 64 bits
-abbrev pub decimal : ℕ → List ℕ
-decimal x = decimalIn 20 x
-
--- a space and a number
-abbrev pub spaced : ℕ → List ℕ
-spaced x = 32 ∷ decimal x
 
 -- "The columns are task number, final line, final count, moves, waits"; "every line ends with a line feed"
 unfoldable pub rowWith : ℕ → ℕ → ℕ → ℕ → ℕ → List ℕ

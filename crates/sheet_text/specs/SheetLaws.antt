@@ -9,6 +9,8 @@ use lib.Dec.{eqb, leb}
 use lib.ListN.{length, length-drop}
 use borrow.Author.Tests.{leb-true, eqb-true}
 use Rattle.bitset.specs.ChoiceLaws.{by-test}
+use Rattle.text.specs.Numbers.{numbersFrom, maxText}
+use Rattle.text.specs.NumbersLaws.{numbers-few}
 use Rattle.schedule.specs.Passes.{unknownAt, allTasks}
 use Rattle.schedule.specs.PassesLaws.{all-known}
 use Rattle.machine.specs.Fresh.{freshReason, freshState}
@@ -16,10 +18,9 @@ use Rattle.machine.specs.FreshLaws.{fresh-valid, fresh-accepted}
 use Rattle.runner.specs.Trace.{nothing}
 use Rattle.guarantee.specs.Calls.{Reached, fresh}
 use Rattle.guarantee.specs.Done.{fresh-low, turns-done}
-use Rattle.sheet_text.specs.Read.{numbersFrom, maxText, Five, Reading, five, refused, parentCount, fiveOf, readOption, readOf}
+use Rattle.sheet_text.specs.Read.{Five, Reading, five, refused, parentCount, fiveOf, readOption, readOf}
 use Rattle.sheet_text.specs.Print.{traceIn, tableOf, printed, sheetOf}
 use Rattle.sheet_text.specs.Steps.{tableFrom}
-use Rattle.sheet_text.specs.ReadLaws.{numbers-few}
 use Rattle.sheet_text.specs.PrintLaws.{refusal-length, table-fits}
 
 -- what an accepted text says: 2 to 6 and 9 refuse nothing, and there are few turns

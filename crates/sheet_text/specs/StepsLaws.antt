@@ -1,15 +1,16 @@
--- Laws of the steps between a text and its page: the parts of the bytes, the passes and the run of a state in range, and the numbers' sheet.
+-- Laws of the steps between a text and its page: the passes and the run of a state in range, and the numbers' sheet.
 use mathlib.Core.Path.{_≡_, refl, sym, ap, _∙_}
 use mathlib.Core.Bool.{Bool, true, false}
-use mathlib.Core.List.{List, [], _∷_, _++_, map}
+use mathlib.Core.List.{List, [], _∷_, map}
 use mathlib.Core.Logic.{_≢_}
-use Prim.Native.Nat.{ℕ, zero, suc, _-_, min, _≤_, _<_}
+use Prim.Native.Nat.{ℕ, _-_, _≤_, _<_}
 use native.Mathlib.Omega.{arith}
-use lib.ListN.{length, take, drop, getD, length-map}
-use lib.Seq.{take-at, take-length}
+use lib.ListN.{length, drop, getD, length-map}
+use lib.Seq.{take-length}
 use borrow.Author.Tests.{eq-eqb, ne-eqb}
 use Rattle.bitset.specs.Choice.{pick}
 use Rattle.bitset.specs.TableLaws.{table-at}
+use Rattle.text.specs.Numbers.{low}
 use Rattle.schedule.specs.Passes.{passesOf, unknownAt, allTasks, passesAnswer}
 use Rattle.schedule.specs.declared.answer.Passes.the-variants.{Count, Refused}
 use Rattle.schedule.specs.PassesLaws.{passes-few, passes-answered}
@@ -28,29 +29,9 @@ use Rattle.sheet_text.specs.declared.Cut.{Cut}
 use Rattle.sheet_text.specs.Cut.{cutOf}
 use Rattle.sheet_text.specs.Read.{Five, five, refused, readNumbers, checked, fiveOf}
 use Rattle.sheet_text.specs.Print.{rowOf, rowsBy, tableWith, refusalOf, tableOf, printed}
-use Rattle.sheet_text.specs.Steps.{low, ranRow, tableFrom, sheetFrom}
+use Rattle.sheet_text.specs.Steps.{ranRow, tableFrom, sheetFrom}
 use Rattle.sheet_text.specs.ReadLaws.{lowInputs, low-reason, low-inputs, low-unknown, low-turns}
 use Rattle.sheet_text.specs.PrintLaws.{rows-same, same-n}
-
--- ---- the parts of the bytes: parents, then turns
-
-pub low-take : (k : ℕ) (xs ys : List ℕ) → take (min k (length xs)) (map low xs ++ ys) ≡ map low (take k xs)
-low-take zero xs ys = let e : min 0 (length xs) ≡ 0 = omega arith in rw e
-low-take (suc k) [] ys = let e : min (suc k) 0 ≡ 0 = omega arith in rw e
-low-take (suc k) (x ∷ xs) ys =
-    let e : min (suc k) (suc (length xs)) ≡ suc (min k (length xs)) = omega arith in
-    rw (e, low-take k xs ys)
-
-pub low-drop : (k : ℕ) (xs ys : List ℕ) → take (length xs - min k (length xs)) (drop (min k (length xs)) (map low xs ++ ys)) ≡ map low (drop k xs)
-low-drop zero xs ys =
-    let e : min 0 (length xs) ≡ 0 = omega arith in
-    let d : length xs - 0 ≡ length xs = omega arith in
-    rw (e, d) (take-at (map low xs) ys (length xs) (length-map xs low))
-low-drop (suc k) [] ys = let e : min (suc k) 0 ≡ 0 = omega arith in rw e
-low-drop (suc k) (x ∷ xs) ys =
-    let e : min (suc k) (suc (length xs)) ≡ suc (min k (length xs)) = omega arith in
-    let d : suc (length xs) - suc (min k (length xs)) ≡ length xs - min k (length xs) = omega arith in
-    rw (e, d) (low-drop k xs ys)
 
 -- ---- the passes and the run of a state in range
 

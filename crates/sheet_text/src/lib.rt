@@ -1,25 +1,25 @@
 // The sheet: from a text to what is printed. What it answers is defined in specs/Read.antt and specs/Print.antt.
 pub mod answer;
 mod print;
-mod read;
 
 use answer::Sheet;
 use machine::Fresh;
 use machine::Setup;
 use machine::State;
-use read::Found;
 use schedule::answer::Passes;
+use text::read::Found;
 ghost use mathlib.Core.Path.{_≡_};
 ghost use mathlib.Core.List.{[]};
 ghost use Prim.Native.Nat.{min, _≤_};
 ghost use lib.ListN.{length};
+ghost use Rattle.text.specs.Page.{Prints};
 ghost use Rattle.schedule.specs.Passes.{passesAnswer};
 ghost use Rattle.machine.specs.Fresh.{inputsOf, freshOf};
 ghost use Rattle.machine.specs.Range.{Valid};
 ghost use Rattle.sheet_text.specs.Read.{parentCount, readNumbers};
 ghost use Rattle.sheet_text.specs.Print.{printed, sheetOf, pageOf};
 ghost use Rattle.sheet_text.specs.Cut.{cutOf};
-ghost use Rattle.sheet_text.specs.Steps.{Prints, sheetFrom};
+ghost use Rattle.sheet_text.specs.Steps.{sheetFrom};
 
 // The paper's numbers of what `passes` answers; specs/Cut.antt gives them.
 struct Cut {
@@ -49,7 +49,7 @@ fn passes_of(n: usize, schedule: &[u8]) -> Cut
 }
 
 // Prints the run of a schedule from a state in range, or the place of the first turn that is no task.
-fn print_run(page: &mut [u8; 2048], state: State, schedule: &[u8]) -> usize
+fn print_run(page: &mut [u8], state: State, schedule: &[u8]) -> usize
     requires { ⌜ Valid state ⌝ }
     requires { ⌜ length (now schedule) ≤ 32768 ⌝ }
     ensures { λ r. ⌜ Prints 0 (sheetFrom state (now (schedule .entry))) (now (page .entry)) r (now (page .exit)) ⌝ }
@@ -83,7 +83,7 @@ fn fresh_state(setup: Setup, parents: &[u8]) -> Fresh
 }
 
 // Prints the sheet of a text's numbers, of which there are three at least.
-fn print_numbers(page: &mut [u8; 2048], numbers: &[u32]) -> usize
+fn print_numbers(page: &mut [u8], numbers: &[u32]) -> usize
     requires { ⌜ 3 ≤ length (now numbers) ⌝ }
     requires { ⌜ length (now numbers) ≤ 32768 ⌝ }
     ensures { λ r. ⌜ Prints 0 (printed (readNumbers (now (numbers .entry)))) (now (page .entry)) r (now (page .exit)) ⌝ }
@@ -92,7 +92,7 @@ fn print_numbers(page: &mut [u8; 2048], numbers: &[u32]) -> usize
     let n = numbers[1] as usize;
     let modulus = numbers[2] as usize;
     let mut bytes = [0u8; 32768];
-    read::bytes(&numbers[3..], &mut bytes);
+    text::read::bytes(&numbers[3..], &mut bytes);
     let count = numbers.len() - 3;
     let parents = parent_count(kind, n, count);
     let setup = Setup { kind, n, modulus };
@@ -105,14 +105,11 @@ fn print_numbers(page: &mut [u8; 2048], numbers: &[u32]) -> usize
 }
 
 // Prints the sheet of a text, and answers how many bytes that took.
-fn print_text(page: &mut [u8; 2048], text: &[u8]) -> usize
+fn print_text(page: &mut [u8], text: &[u8]) -> usize
     ensures { λ r. ⌜ Prints 0 (sheetOf (now (text .entry))) (now (page .entry)) r (now (page .exit)) ⌝ }
 {
-    if 65536 < text.len() {
-        return print::refusal(page, 1, 0);
-    }
     let mut numbers = [0u32; 32768];
-    let found = read::numbers(text, &mut numbers);
+    let found = text::read::numbers(text, &mut numbers);
     let Found::Count(count) = found else {
         return print::refusal(page, 1, 0);
     };

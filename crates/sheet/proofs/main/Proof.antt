@@ -6,9 +6,9 @@ use Prim.Native.Nat.{ℕ, _-_, _≤_}
 use native.Mathlib.Omega.{arith}
 use lib.ListN.{length, length-append, replicate}
 use lib.Seq.{length-take-le}
+use Rattle.input.specs.declared.Got.{Got}
+use Rattle.input.specs.Read.{Within}
 use Rattle.sheet_text.specs.Print.{sheetOf, pageOf}
-use Rattle.sheet.specs.declared.Got.{Got}
-use Rattle.sheet.specs.Read.{Within}
 use Rattle.sheet.proofs.main.Statement.{statement}
 use Rattle.sheet.proofs.main.Tie as tie
 
@@ -24,11 +24,11 @@ page-there c = fits _ _ _ (c .sheet .ensures .0) (c .sheet .ensures .1)
 abbrev got : tie.After-known-told → tie.After-n
 got c = c .before
 
-abbrev read : tie.After-known-told → tie.After-read-text
+abbrev read : tie.After-known-told → tie.After-read-all
 read c = got c .before .before .before
 
-text-there : (c : tie.After-known-told) → got c .n .given .0 .0 ≤ length (read c .read-text .last .0)
-text-there c = subst (λ (g : Got). Within g (length (read c .read-text .last .0))) (got c .n .given .1) (read c .read-text .ensures)
+text-there : (c : tie.After-known-told) → got c .n .given .0 .0 ≤ length (read c .read-all .last .1 .0)
+text-there c = subst (λ (g : Got). Within g (length (read c .read-all .last .1 .0))) (got c .n .given .1) (read c .read-all .ensures)
 
 array-share-prefix-text : tie.Need-array-share-prefix-text
 array-share-prefix-text c = text-there c

@@ -7,15 +7,17 @@ use native.Mathlib.Omega.{arith}
 use borrow.Author.Needs.{needs}
 use lib.ListN.{length, take, drop, getD, replicate, length-drop, length-map, length-replicate}
 use lib.Seq.{take-all, length-take-le}
+use Rattle.text.specs.Numbers.{low}
+use Rattle.text.specs.NumbersLaws.{over-whole, low-take, low-drop}
 use Rattle.machine.specs.declared.Fresh.{Fresh}
 use Rattle.machine.specs.Fresh.{inputsOf, freshReason, freshOf}
 use Rattle.machine.specs.FreshLaws.{fresh-reason, fresh-accepted, fresh-valid}
 use Rattle.machine.specs.Range.{Valid}
 use Rattle.sheet_text.specs.Read.{Five, parentCount, fiveOf, readNumbers}
 use Rattle.sheet_text.specs.Print.{printed, refusalOf}
-use Rattle.sheet_text.specs.Steps.{low, sheetFrom}
+use Rattle.sheet_text.specs.Steps.{sheetFrom}
 use Rattle.sheet_text.specs.ReadLaws.{lowInputs}
-use Rattle.sheet_text.specs.StepsLaws.{low-take, low-drop, three, low-refused, low-accepted}
+use Rattle.sheet_text.specs.StepsLaws.{three, low-refused, low-accepted}
 use Rattle.sheet_text.proofs.print_numbers.Statement.{statement}
 use Rattle.sheet_text.proofs.print_numbers.Tie as tie
 
@@ -70,7 +72,7 @@ abbrev ns : tie.Start → List ℕ
 ns s = s .args .numbers .now
 
 abbrev read : tie.After-shared-slice-known4 → tie.Start
-read c = c .before .before .before .before
+read c = c .before .before .before .before .before
 
 abbrev start : tie.After-bytes2 → tie.Start
 start c = read (c .before .before .before)
@@ -79,7 +81,10 @@ abbrev buffer : tie.After-bytes2 → List ℕ
 buffer c = c .bytes2 .last .1 .0
 
 filled : (c : tie.After-bytes2) → buffer c ≡ map low (drop 3 (ns (start c))) ++ drop (length (drop 3 (ns (start c)))) (replicate 32768 0)
-filled c = rw (rest (ns (start c)) (start c .pre .0)) at (c .bytes2 .ensures)
+filled c =
+    let xs = drop 3 (ns (start c)) in
+    rw (rest (ns (start c)) (start c .pre .0)) at (c .bytes2 .ensures)
+    ∙ rw (over-whole (map low xs) (replicate 32768 0) (rw (length-map, length-replicate) (omega (arith, start c .pre .1, length-drop 3 (ns (start c))))), length-map)
 
 -- ---- how many parents there are
 
@@ -125,9 +130,11 @@ accepting c = c .before .before .before
 
 returns : tie.Need-returns
 returns c =
-    let f = c .before .before .before in
+    let p = c .before .before in
+    let t = p .before .before in
+    let f = t .before in
     let s = begun f in
-    rw (refused (ns s) (s .pre .0) (f .fresh-state .result) (made f) (c .before .before .if1 .taken)) (c .refusal .ensures)
+    rw (refused (ns s) (s .pre .0) (f .fresh-state .result) (made f) (t .if1 .taken)) (p .refusal .ensures)
 
 print-run-requires : tie.Need-print-run-requires
 print-run-requires c κs =
@@ -141,12 +148,13 @@ print-run-requires c κs =
 
 returns-2 : tie.Need-returns-2
 returns-2 c =
-    let e = accepting (c .before) in
+    let p = c .before .before in
+    let e = accepting (p .before) in
     let f = e .before in
     let s = begun f in
-    rw (accepted (ns s) (s .pre .0) (f .fresh-state .result) (made f) (e .if1 .left) _ (turned f)) (c .print-run .ensures)
+    rw (accepted (ns s) (s .pre .0) (f .fresh-state .result) (made f) (e .if1 .left) _ (turned f)) (p .print-run .ensures)
 
 pub print-numbers-spec : {M : Type 1} → statement M
 print-numbers-spec =
     tie.close
-    (tie.spec (λ c. search needs) cast-kind (λ c. search needs) cast-n (λ c. search needs) cast-modulus (λ c. search needs) (λ c. search needs) (λ c. search needs) (λ c. search needs) (λ c κs. search needs) (λ c. search needs) (λ c κs. search needs) (λ c. search needs) slice-aggregate-fresh-state (λ c κs. search needs) (λ c. search needs) (λ c κs. search needs) returns (λ c. search needs) (λ c. search needs) (λ c. search needs) print-run-requires returns-2)
+    (tie.spec (λ c. search needs) cast-kind (λ c. search needs) cast-n (λ c. search needs) cast-modulus (λ c. search needs) (λ c. search needs) (λ c. search needs) (λ c. search needs) (λ c κs. search needs) (λ c. search needs) (λ c κs. search needs) (λ c. search needs) slice-aggregate-fresh-state (λ c κs. search needs) (λ c. search needs) (λ c κs. search needs) (λ c. search needs) returns (λ c. search needs) (λ c. search needs) (λ c. search needs) print-run-requires (λ c. search needs) returns-2)

@@ -3,7 +3,6 @@ use mathlib.Core.Path.{_≡_, sym, ap, _∙_}
 use mathlib.Core.Bool.{true}
 use Prim.Native.Nat.{ℕ, _-_}
 use native.Mathlib.Nat.{le-of-eq}
-use native.Mathlib.Omega.{arith}
 use borrow.Author.Needs.{needs}
 use lib.ListN.{length, replicate, length-replicate}
 use Rattle.schedule.specs.Passes.{passesOf, allTasks}
@@ -11,7 +10,6 @@ use Rattle.machine.specs.Least.{leastUpTo}
 use Rattle.machine.specs.RangeLaws.{range}
 use Rattle.sheet_text.specs.Print.{rowsBy, tableWith}
 use Rattle.sheet_text.specs.Steps.{ranRow, tableFrom}
-use Rattle.sheet_text.specs.PrintLaws.{table-fits}
 use Rattle.sheet_text.specs.StepsLaws.{cut-refused, cut-accepted, ran-table, all-tasks}
 use Rattle.sheet_text.proofs.print_run.Statement.{statement}
 use Rattle.sheet_text.proofs.print_run.Tie as tie
@@ -19,7 +17,7 @@ use Rattle.sheet_text.proofs.print_run.Tie as tie
 -- ---- the passes
 
 abbrev start : tie.After-passes-of → tie.Start
-start c = c .before .before .before
+start c = c .before .before .before .before
 
 -- what they have told of a schedule that is not refused
 told : (c : tie.Else1) → let p = c .before in let a = start p .args in
@@ -51,26 +49,28 @@ shown c =
 
 returns : tie.Need-returns
 returns c =
-    let p = c .before .before .before in
+    let f = c .before .before in
+    let t = f .before .before in
+    let p = t .before in
     let s = start p in
-    rw (cut-refused (s .args .state) (s .args .schedule .now) (s .pre .0) (s .pre .1) (p .passes-of .result) (p .passes-of .ensures) (c .before .before .if1 .taken))
-    (c .refusal .ensures)
+    rw (cut-refused (s .args .state) (s .args .schedule .now) (s .pre .0) (s .pre .1) (p .passes-of .result) (p .passes-of .ensures) (t .if1 .taken))
+    (f .refusal .ensures)
 
 table-requires : tie.Need-table-requires
 table-requires c κs =
-    let r = c .before .before in
-    let s = begun r in
+    let s = begun (c .before .before) in
     let known = range (s .args .state) (s .pre .0) in
-    ((known .some, known .few), rw (shown r) (table-fits (s .args .state) (s .args .schedule .now) (s .pre .0) (omega (arith, s .pre .1))))
+    (known .some, known .few)
 
 returns-2 : tie.Need-returns-2
 returns-2 c =
-    let r = c .before .before .before in
+    let t = c .before .before in
+    let r = t .before .before .before in
     let s = begun r in
-    rw (all-tasks (s .args .state) (s .args .schedule .now) (s .pre .0) (s .pre .1) (told (going r) .0), ← shown r) (c .table .ensures)
+    rw (all-tasks (s .args .state) (s .args .schedule .now) (s .pre .0) (s .pre .1) (told (going r) .0), ← shown r) (t .table .ensures)
 
 pub print-run-spec : {M : Type 1} → statement M
 print-run-spec =
     tie.close
-    (tie.spec (λ c. search needs) (λ c κs. search needs) (λ c. search needs) (λ c κs. search needs) returns (λ c. search needs) (λ c κs. search needs)
-    table-requires returns-2)
+    (tie.spec (λ c. search needs) (λ c κs. search needs) (λ c. search needs) (λ c κs. search needs) (λ c. search needs) returns (λ c. search needs)
+    (λ c κs. search needs) table-requires (λ c. search needs) returns-2)

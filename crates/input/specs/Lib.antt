@@ -1,0 +1,2 @@
+-- What reading a descriptor promises.
+pub mod Read
