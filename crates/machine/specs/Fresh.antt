@@ -25,10 +25,6 @@ pub record Inputs : Type 0 where
 abbrev pub inputsOf : Setup → List ℕ → List ℕ → Inputs
 inputsOf setup parents starts = record { kind = setup .kind; n = setup .n; modulus = setup .modulus; parents = parents; starts = starts }
 
--- the same with another parent table
-abbrev pub withParents : Inputs → List ℕ → Inputs
-withParents i parents = record { kind = i .kind; n = i .n; modulus = i .modulus; parents = parents; starts = i .starts }
-
 -- "0 symmetric, 1 fetch-and-increment, 2 ring, 3 tree"
 abbrev pub isKind : ℕ → Bool
 isKind kind = leb kind 3

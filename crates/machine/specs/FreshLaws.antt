@@ -1,12 +1,12 @@
 -- Laws of the fresh state: when it is refused, and that an accepted one is in range.
 use mathlib.Core.Path.{_≡_, refl, sym, ap, _∙_, subst}
 use mathlib.Core.Bool.{Bool, true, false, _&&_, _||_, and-eq-true-iff}
-use mathlib.Core.List.{List, [], _∷_}
+use mathlib.Core.List.{List, [], _∷_, map}
 use Prim.Native.Nat.{ℕ, zero, suc, _+_, _-_, _≤_, _<_}
 use native.Mathlib.Omega.{arith}
 use lib.Dec.{eqb, ltb}
-use lib.ListN.{length, getD, drop, replicate, getD-replicate, List·getD-append}
-use lib.Seq.{getD-append-add, take-at, drop-at}
+use lib.ListN.{length, getD, drop, replicate, getD-replicate, length-map, List·getD-append, List·getD-map}
+use lib.Seq.{getD-append-add, take-at, drop-at, ext-getD}
 use borrow.Author.Tests.{eq-eqb, ne-eqb, lt-ltb, ltb-true, le-leb, leb-true, eqb-true, eqb-false}
 use Rattle.bitset.specs.Choice.{pick}
 use Rattle.bitset.specs.Table.{table}
@@ -14,11 +14,11 @@ use Rattle.bitset.specs.TableLaws.{length-table, table-at}
 use Rattle.bitset.specs.Tasks.{isCount}
 use Rattle.bitset.specs.SetLaws.{is-count, within-bits, bit-zero}
 use Rattle.parents.specs.Parents.{checkOf}
-use Rattle.parents.specs.ParentsLaws.{accepted}
+use Rattle.parents.specs.ParentsLaws.{accepted, entries-below, check-alike}
 use Rattle.lines.specs.declared.Task.{Task}
 use Rattle.lines.specs.Setters.{zeroTask}
 use Rattle.machine.specs.Setters.{movesAt, waitsAt}
-use Rattle.machine.specs.Fresh.{Inputs, withParents, isKind, modulusOk, parentsReason, allBelow, startsReason, firstReason, freshReason, startOf, freshTask, freshTasks, padded, freshState, freshOf}
+use Rattle.machine.specs.Fresh.{Inputs, isKind, modulusOk, parentsReason, allBelow, startsReason, firstReason, freshReason, startOf, freshTask, freshTasks, padded, freshState, freshOf}
 use Rattle.machine.specs.Range.{tableOf, fieldOk, listRoom, allZero, parentsOk, taskZero, Valid}
 use Rattle.bitset.specs.ChoiceLaws.{by-test}
 use Rattle.machine.specs.RangeLaws.{TaskRange, Tallies, valid, line-14, used, modulus-3}
@@ -58,20 +58,6 @@ pub inputs-accepted : (i : Inputs) → Accepted i → freshReason i ≡ 0
 unfolding freshReason
 inputs-accepted i a =
     rw (le-leb (i .kind) 3 (a .kind), le-leb 1 (i .n) (a .some), le-leb (i .n) 64 (a .few), a .modulus, a .parents) (a .starts)
-
--- the parents are looked at only where N is 1 to 64, and by their own reason alone
-pub reason-alike : (i : Inputs) (parents : List ℕ) → (i .n ≤ 64 → parentsReason (i .kind) (i .n) parents ≡ parentsReason (i .kind) (i .n) (i .parents))
-    → freshReason (withParents i parents) ≡ freshReason i
-unfolding freshReason
-reason-alike i parents same = go (isCount (i .n)) refl
-  where
-    reason : Bool → ℕ → ℕ
-    reason b k = pick (isKind (i .kind)) (pick b (pick (modulusOk (i .kind) (i .modulus)) (firstReason k (startsReason (i .kind) (i .n) (i .starts))) 4) 3) 2
-
-    go : (b : Bool) → isCount (i .n) ≡ b
-        → reason b (parentsReason (i .kind) (i .n) parents) ≡ reason b (parentsReason (i .kind) (i .n) (i .parents))
-    go true e = ap (reason true) (same (is-count (i .n) e .1))
-    go false e = refl
 
 -- ---- an accepted one is in range
 
@@ -207,3 +193,63 @@ fresh-reason i = refl
 pub fresh-accepted : (i : Inputs) → freshReason i ≡ 0 → freshOf i .state ≡ freshState i
 unfolding freshOf
 fresh-accepted i e = rw (eq-eqb (freshReason i) 0 e)
+
+-- ---- other numbers in the tables
+
+-- the inputs with another number for each entry of a table
+abbrev pub withEntries : (ℕ → ℕ) → Inputs → Inputs
+withEntries f i = record { kind = i .kind; n = i .n; modulus = i .modulus; parents = map f (i .parents); starts = map f (i .starts) }
+
+-- a start of an accepted table is a task
+starts-below : (kind n : ℕ) (starts : List ℕ) (q : ℕ) → 1 ≤ n → startsReason kind n starts ≡ 0 → getD starts q 0 < n
+starts-below kind n [] q some e = some
+starts-below kind n (x ∷ xs) q some e =
+    by-test (λ r. r ≡ 0 → getD (x ∷ xs) q 0 < n) (eqb kind 0 && eqb (length (x ∷ xs)) n && allBelow n (x ∷ xs))
+    (λ ok _. below-at n (x ∷ xs) q some (and-eq-true-iff (eqb kind 0 && eqb (length (x ∷ xs)) n) (allBelow n (x ∷ xs)) .0 ok .1)) (λ _ z. absurd (omega arith))
+    (rw (ne-eqb (length (x ∷ xs)) 0 (λ z. absurd (omega arith))) at e)
+
+-- and so is a parent
+parents-below : (kind n : ℕ) (parents : List ℕ) (q : ℕ) → 1 ≤ n → parentsReason kind n parents ≡ 0 → q < length parents → getD parents q 0 < n
+parents-below kind n parents q some e l =
+    by-test (λ r. r ≡ 0 → getD parents q 0 < n) (eqb kind 3) (λ _ t. entries-below parents n q t l)
+    (λ _ t. absurd (omega (arith, rw (ne-eqb (length parents) 0 (λ z. omega arith)) at t))) e
+
+-- numbers that compare with 0 and with those up to 64 as the entries do, and are the same below 64
+module _ (f : ℕ → ℕ) (zeros : (x : ℕ) → eqb (f x) 0 ≡ eqb x 0) (below : (x n : ℕ) → n ≤ 64 → ltb (f x) n ≡ ltb x n) (fixed : (x : ℕ) → x < 64 → f x ≡ x) where
+  below-alike : (n : ℕ) (xs : List ℕ) → n ≤ 64 → allBelow n (map f xs) ≡ allBelow n xs
+  unfolding allBelow
+  below-alike n [] h = refl
+  below-alike n (x ∷ xs) h = rw (below x n h, below-alike n xs h)
+
+  -- the tables are looked at only where N is 1 to 64, and are refused alike
+  pub entries-reason : (i : Inputs) → freshReason (withEntries f i) ≡ freshReason i
+  unfolding freshReason
+  entries-reason i = go (isCount (i .n)) refl
+    where
+      reason : Bool → ℕ → ℕ
+      reason b k = pick (isKind (i .kind)) (pick b (pick (modulusOk (i .kind) (i .modulus)) k 4) 3) 2
+
+      tables : i .n ≤ 64 → firstReason (parentsReason (i .kind) (i .n) (map f (i .parents))) (startsReason (i .kind) (i .n) (map f (i .starts)))
+          ≡ firstReason (parentsReason (i .kind) (i .n) (i .parents)) (startsReason (i .kind) (i .n) (i .starts))
+      tables few =
+          rw (check-alike f (i .n) zeros (λ x q h. below x q (omega arith)) (i .parents) (fixed 0 (omega arith)), length-map (i .parents) f, length-map (i .starts) f, below-alike (i .n) (i .starts) few)
+
+      go : (b : Bool) → isCount (i .n) ≡ b
+          → reason b (firstReason (parentsReason (i .kind) (i .n) (map f (i .parents))) (startsReason (i .kind) (i .n) (map f (i .starts))))
+          ≡ reason b (firstReason (parentsReason (i .kind) (i .n) (i .parents)) (startsReason (i .kind) (i .n) (i .starts)))
+      go true e = ap (reason true) (tables (is-count (i .n) e .1))
+      go false e = refl
+
+  same-list : (xs : List ℕ) → ((q : ℕ) → q < length xs → getD xs q 0 < 64) → map f xs ≡ xs
+  same-list xs h =
+      ext-getD 0 (map f xs) xs (length-map xs f)
+      (λ q l. ap (getD (map f xs) q) (sym (fixed 0 (omega arith))) ∙ List·getD-map f xs q 0 ∙ fixed (getD xs q 0) (h q (rw length-map at l)))
+
+  -- those that are accepted are the same
+  pub entries-same : (i : Inputs) → freshReason i ≡ 0 → withEntries f i ≡ i
+  entries-same i e =
+      let a = accepted-inputs i e in
+      rw (
+        same-list (i .parents) (λ q l. omega (arith, parents-below (i .kind) (i .n) (i .parents) q (a .some) (a .parents) l, a .few)),
+        same-list (i .starts) (λ q l. omega (arith, starts-below (i .kind) (i .n) (i .starts) q (a .some) (a .starts), a .few)),
+      )

@@ -4,7 +4,7 @@ use Prim.Native.Nat.{ℕ, zero, suc, _-_}
 use lib.Dec.{eqb}
 use lib.ListN.{length, replicate}
 use Rattle.bitset.specs.Choice.{pick}
-use Rattle.text.specs.Decimal.{decimal, spaced}
+use Rattle.text.specs.Decimal.{decimal, spaced, refusedWord}
 use Rattle.schedule.specs.Passes.{passesOf}
 use Rattle.machine.specs.Setters.{taskAt}
 use Rattle.machine.specs.Fresh.{freshOf}
@@ -31,15 +31,12 @@ header =
     116 ∷ 97 ∷ 115 ∷ 107 ∷ 32 ∷ 108 ∷ 105 ∷ 110 ∷ 101 ∷ 32 ∷ 99 ∷ 111 ∷ 117 ∷ 110 ∷ 116 ∷ 32 ∷ 109 ∷ 111 ∷ 118 ∷ 101 ∷ 115 ∷ 32
     ∷ 119 ∷ 97 ∷ 105 ∷ 116 ∷ 115 ∷ 10 ∷ []
 
--- "passes", "least", "refused", "place"
+-- "passes", "least", "place"
 abbrev pub passesWord : List ℕ
 passesWord = 112 ∷ 97 ∷ 115 ∷ 115 ∷ 101 ∷ 115 ∷ []
 
 abbrev pub leastWord : List ℕ
 leastWord = 32 ∷ 108 ∷ 101 ∷ 97 ∷ 115 ∷ 116 ∷ []
-
-abbrev pub refusedWord : List ℕ
-refusedWord = 114 ∷ 101 ∷ 102 ∷ 117 ∷ 115 ∷ 101 ∷ 100 ∷ []
 
 abbrev pub placeWord : List ℕ
 placeWord = 32 ∷ 112 ∷ 108 ∷ 97 ∷ 99 ∷ 101 ∷ []

@@ -10,7 +10,7 @@ use lib.Dec.{eqb}
 use lib.ListN.{length, length-append}
 use borrow.Author.Tests.{ne-eqb}
 use Rattle.bitset.specs.Choice.{pick}
-use Rattle.text.specs.Decimal.{decimal, spaced}
+use Rattle.text.specs.Decimal.{decimal, spaced, refusedWord}
 use Rattle.text.specs.DecimalLaws.{decimal-most, decimal-length}
 use Rattle.schedule.specs.Passes.{passesOf}
 use Rattle.schedule.specs.PassesLaws.{passes-few}
@@ -26,7 +26,7 @@ use Rattle.runner.specs.Trace.{traceOf}
 use Rattle.runner.specs.Run.{movesIn, waitsIn}
 use Rattle.runner.specs.TraceLaws.{trace-keeps}
 use Rattle.runner.specs.RunLaws.{moves-few, waits-few}
-use Rattle.sheet_text.specs.Print.{rowWith, rowOf, rowsBy, refusedWord, placeWord, tableWith, refusalOf}
+use Rattle.sheet_text.specs.Print.{rowWith, rowOf, rowsBy, placeWord, tableWith, refusalOf}
 use Rattle.sheet_text.specs.Steps.{tableFrom}
 
 -- ---- the lines

@@ -1,4 +1,4 @@
--- Numbers in decimal.
+-- Numbers in decimal, and the word that stands before a reason.
 use mathlib.Core.List.{List, [], _∷_, _++_}
 use Prim.Native.Nat.{ℕ, zero, suc, _+_, _/_, _%_}
 use lib.Dec.{ltb}
@@ -18,3 +18,7 @@ decimal x = decimalIn 20 x
 -- a space and a number
 abbrev pub spaced : ℕ → List ℕ
 spaced x = 32 ∷ decimal x
+
+-- "refused", which every program prints before a reason
+abbrev pub refusedWord : List ℕ
+refusedWord = 114 ∷ 101 ∷ 102 ∷ 117 ∷ 115 ∷ 101 ∷ 100 ∷ []

@@ -1,0 +1,125 @@
+-- Laws of play-back from a setup text: what its numbers say, that their bytes say the same, and that what is printed fits.
+use mathlib.Core.Path.{_≡_, refl, sym, ap, _∙_}
+use mathlib.Core.Bool.{Bool, true, false, _&&_}
+use mathlib.Core.List.{List, [], _∷_, _++_, map}
+use mathlib.Core.Option.{Option, none, some}
+use mathlib.Core.Logic.{_≢_}
+use Prim.Native.Nat.{ℕ, zero, suc, _+_, _*_, _≤_, _<_}
+use native.Mathlib.Decide.{ℕ-discrete}
+use native.Mathlib.Omega.{arith}
+use lib.Dec.{eqb}
+use lib.ListN.{length, take, drop, getD, length-append}
+use borrow.Author.Tests.{eq-eqb, ne-eqb}
+use Rattle.bitset.specs.Choice.{pick}
+use Rattle.text.specs.Numbers.{low}
+use Rattle.text.specs.NumbersLaws.{low-same, low-below, low-zero}
+use Rattle.text.specs.Decimal.{decimal, spaced, refusedWord}
+use Rattle.text.specs.DecimalLaws.{decimal-most}
+use Rattle.machine.specs.declared.State.{State}
+use Rattle.machine.specs.declared.Outcome.{Outcome}
+use Rattle.machine.specs.declared.Outcome.the-variants as outcome
+use Rattle.machine.specs.Setters.{taskAt}
+use Rattle.machine.specs.Fresh.{Inputs, inputsOf, freshReason}
+use Rattle.machine.specs.FreshLaws.{withEntries, entries-reason, entries-same}
+use Rattle.machine.specs.Turn.{turnOf, moveNumber}
+use Rattle.playback.specs.declared.Verdict.{Verdict}
+use Rattle.playback.specs.declared.Verdict.the-variants as verdict
+use Rattle.playback.specs.declared.Played.{Played}
+use Rattle.playback.specs.Playback.{triplesOf, playReason, refusedPlay, playOf}
+use Rattle.playback.specs.PlaybackLaws.{reason-fresh, play-refused}
+use Rattle.playback.specs.StepsLaws.{length-triples}
+use Rattle.playback.specs.Claims.{plays-first}
+use Rattle.playback_text.specs.Setup.{inputsIn, setupIn}
+use Rattle.playback_text.specs.Answer.{playIn, differsWord, countedLine, verdictLine, turnLine, toldLine, linesOf}
+
+-- ---- the numbers of a setup
+
+pub six : (ns : List ℕ) → 6 ≤ length ns → setupIn ns ≡ inputsIn (getD ns 0 0) (getD ns 1 0) (getD ns 2 0) (getD ns 3 0) (getD ns 4 0) (getD ns 5 0) (drop 6 ns)
+six [] h = absurd (omega arith)
+six (a ∷ []) h = absurd (omega arith)
+six (a ∷ b ∷ []) h = absurd (omega arith)
+six (a ∷ b ∷ c ∷ []) h = absurd (omega arith)
+six (a ∷ b ∷ c ∷ d ∷ []) h = absurd (omega arith)
+six (a ∷ b ∷ c ∷ d ∷ e ∷ []) h = absurd (omega arith)
+six (a ∷ b ∷ c ∷ d ∷ e ∷ f ∷ ns) h = refl
+
+pub fewer : (ns : List ℕ) → length ns < 6 → setupIn ns ≡ none
+fewer [] h = refl
+fewer (a ∷ []) h = refl
+fewer (a ∷ b ∷ []) h = refl
+fewer (a ∷ b ∷ c ∷ []) h = refl
+fewer (a ∷ b ∷ c ∷ d ∷ []) h = refl
+fewer (a ∷ b ∷ c ∷ d ∷ e ∷ []) h = refl
+fewer (a ∷ b ∷ c ∷ d ∷ e ∷ f ∷ ns) h = absurd (omega arith)
+
+-- ---- their bytes
+
+-- the bytes of the first k numbers, and of those after them
+pub low-first : (k : ℕ) (xs : List ℕ) → take k (map low xs) ≡ map low (take k xs)
+low-first zero xs = refl
+low-first (suc k) [] = refl
+low-first (suc k) (x ∷ xs) = ap (λ (l : List ℕ). low x ∷ l) (low-first k xs)
+
+pub low-rest : (k : ℕ) (xs : List ℕ) → drop k (map low xs) ≡ map low (drop k xs)
+low-rest zero xs = refl
+low-rest (suc k) [] = refl
+low-rest (suc k) (x ∷ xs) = low-rest k xs
+
+-- the bytes of the tables are played as the tables are
+pub low-play : (i : Inputs) (trace : List ℕ) → playOf (withEntries low i) trace ≡ playOf i trace
+low-play i trace = go (ℕ-discrete (freshReason i) 0)
+  where
+    reason : freshReason (withEntries low i) ≡ freshReason i
+    reason = entries-reason low low-zero (λ x n h. low-below x n (omega arith)) (λ x h. low-same x (omega arith)) i
+
+    go : Dec (freshReason i ≡ 0) → playOf (withEntries low i) trace ≡ playOf i trace
+    go (yes e) = ap (λ (j : Inputs). playOf j trace) (entries-same low low-zero (λ x n h. low-below x n (omega arith)) (λ x h. low-same x (omega arith)) i e)
+    go (no ne) =
+        let first = reason-fresh i trace ne in
+        let low-first = reason-fresh (withEntries low i) trace (λ z. ne (sym reason ∙ z)) in
+        play-refused (withEntries low i) trace (λ z. ne (sym reason ∙ sym low-first ∙ z)) ∙ ap refusedPlay (low-first ∙ reason ∙ sym first)
+        ∙ sym (play-refused i trace (λ z. ne (sym first ∙ z)))
+
+-- ---- what is printed fits
+
+counted-length : (word : List ℕ) (x : ℕ) → length (countedLine word x) ≤ length word + 22
+counted-length word x = simp length-append (omega (arith, decimal-most 20 x))
+
+verdict-length : (v : Verdict) → length (verdictLine v) ≤ 29
+verdict-length verdict.Agrees = omega arith
+verdict-length (verdict.Differs i) = counted-length differsWord i
+verdict-length (verdict.Refused k) = counted-length refusedWord k
+
+turn-length : (s : State) (p : ℕ) (o : Outcome) → length (turnLine s p o) ≤ 63
+turn-length s p (outcome.Made how) =
+    simp length-append (omega (arith, decimal-most 20 p, decimal-most 20 (taskAt s p .line), decimal-most 20 (moveNumber how)))
+turn-length s p (outcome.Refused k) = simp length-append (omega (arith, decimal-most 20 p, decimal-most 20 k))
+
+told-length : (v : Verdict) (s : State) (trace : List ℕ) → length (toldLine v s trace) ≤ 63
+told-length verdict.Agrees s trace = omega arith
+told-length (verdict.Differs i) s trace = turn-length s (getD trace (3 * i) 0) (turnOf s (getD trace (3 * i) 0) .outcome)
+told-length (verdict.Refused k) s trace = omega arith
+
+pub verdict-fits : (v : Verdict) → length (verdictLine v) ≤ 128
+verdict-fits v = omega (arith, verdict-length v)
+
+pub lines-fit : (p : Played) (trace : List ℕ) → length (linesOf p trace) ≤ 128
+unfolding linesOf
+lines-fit p trace = rw length-append (omega (arith, verdict-length (p .verdict), told-length (p .verdict) (p .state) trace))
+
+-- ---- a triple that differs
+
+-- it is one of the trace's
+abbrev pub Within : Verdict → List ℕ → Type 0
+Within verdict.Agrees trace = Unit {0}
+Within (verdict.Differs i) trace = 3 * i < length trace
+Within (verdict.Refused k) trace = Unit {0}
+
+pub play-within : (o : Option Inputs) (trace : List ℕ) → Within (playIn o trace .verdict) trace
+play-within none trace = tt
+play-within (some i) trace = go (playOf i trace .verdict) refl
+  where
+    go : (v : Verdict) → playOf i trace .verdict ≡ v → Within v trace
+    go verdict.Agrees e = tt
+    go (verdict.Differs k) e = omega (arith, plays-first i trace k e .within, length-triples trace)
+    go (verdict.Refused k) e = tt
