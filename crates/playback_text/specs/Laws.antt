@@ -1,35 +1,31 @@
 -- Laws of play-back from a setup text: what its numbers say, that their bytes say the same, and that what is printed fits.
 use mathlib.Core.Path.{_≡_, refl, sym, ap, _∙_}
-use mathlib.Core.Bool.{Bool, true, false, _&&_}
-use mathlib.Core.List.{List, [], _∷_, _++_, map}
+use mathlib.Core.List.{List, [], _∷_, map}
 use mathlib.Core.Option.{Option, none, some}
-use mathlib.Core.Logic.{_≢_}
 use Prim.Native.Nat.{ℕ, zero, suc, _+_, _*_, _≤_, _<_}
 use native.Mathlib.Decide.{ℕ-discrete}
 use native.Mathlib.Omega.{arith}
-use lib.Dec.{eqb}
 use lib.ListN.{length, take, drop, getD, length-append}
-use borrow.Author.Tests.{eq-eqb, ne-eqb}
-use Rattle.bitset.specs.Choice.{pick}
 use Rattle.text.specs.Numbers.{low}
 use Rattle.text.specs.NumbersLaws.{low-same, low-below, low-zero}
-use Rattle.text.specs.Decimal.{decimal, spaced, refusedWord}
+use Rattle.text.specs.Decimal.{refusedWord}
 use Rattle.text.specs.DecimalLaws.{decimal-most}
 use Rattle.machine.specs.declared.State.{State}
 use Rattle.machine.specs.declared.Outcome.{Outcome}
 use Rattle.machine.specs.declared.Outcome.the-variants as outcome
 use Rattle.machine.specs.Setters.{taskAt}
-use Rattle.machine.specs.Fresh.{Inputs, inputsOf, freshReason}
+use Rattle.machine.specs.Fresh.{Inputs, freshReason}
 use Rattle.machine.specs.FreshLaws.{withEntries, entries-reason, entries-same}
 use Rattle.machine.specs.Turn.{turnOf, moveNumber}
 use Rattle.playback.specs.declared.Verdict.{Verdict}
 use Rattle.playback.specs.declared.Verdict.the-variants as verdict
 use Rattle.playback.specs.declared.Played.{Played}
-use Rattle.playback.specs.Playback.{triplesOf, playReason, refusedPlay, playOf}
+use Rattle.playback.specs.Playback.{refusedPlay, playOf}
 use Rattle.playback.specs.PlaybackLaws.{reason-fresh, play-refused}
 use Rattle.playback.specs.StepsLaws.{length-triples}
 use Rattle.playback.specs.Claims.{plays-first}
 use Rattle.playback_text.specs.Setup.{inputsIn, setupIn}
+use Rattle.playback_text.specs.Steps.{Within}
 use Rattle.playback_text.specs.Answer.{playIn, differsWord, countedLine, verdictLine, turnLine, toldLine, linesOf}
 
 -- ---- the numbers of a setup
@@ -110,11 +106,6 @@ lines-fit p trace = rw length-append (omega (arith, verdict-length (p .verdict),
 -- ---- a triple that differs
 
 -- it is one of the trace's
-abbrev pub Within : Verdict → List ℕ → Type 0
-Within verdict.Agrees trace = Unit {0}
-Within (verdict.Differs i) trace = 3 * i < length trace
-Within (verdict.Refused k) trace = Unit {0}
-
 pub play-within : (o : Option Inputs) (trace : List ℕ) → Within (playIn o trace .verdict) trace
 play-within none trace = tt
 play-within (some i) trace = go (playOf i trace .verdict) refl

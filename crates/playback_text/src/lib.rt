@@ -8,7 +8,6 @@ use playback::Verdict;
 use text::print;
 use text::read::Found;
 ghost use mathlib.Core.Path.{_≡_};
-ghost use mathlib.Core.List.{[], _∷_, _++_};
 ghost use Prim.Native.Nat.{_≤_, _<_};
 ghost use lib.ListN.{length, getD, take, drop};
 ghost use Rattle.text.specs.Page.{Prints};
@@ -18,7 +17,7 @@ ghost use Rattle.machine.specs.Turn.{turnOf};
 ghost use Rattle.playback.specs.Playback.{refusedPlay, playOf};
 ghost use Rattle.playback_text.specs.Setup.{setupIn};
 ghost use Rattle.playback_text.specs.Answer as defs;
-ghost use Rattle.playback_text.specs.Laws.{Within};
+ghost use Rattle.playback_text.specs.Steps.{Within};
 
 // What is printed, with zeros after it: the bytes of the verdict's line, and those of both lines.
 pub struct Printed {

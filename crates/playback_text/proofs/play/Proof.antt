@@ -1,20 +1,16 @@
 -- `play` meets its contract: the verdict's line, and where a triple differs the turn's line after it, on a blank page that they fit.
-use mathlib.Core.Path.{_≡_, refl, sym, ap, _∙_}
-use mathlib.Core.List.{List, [], _++_, append-nil}
-use Prim.Native.Nat.{ℕ, _-_, _*_, _≤_}
-use native.Mathlib.Omega.{arith}
+use mathlib.Core.Path.{_≡_, refl, ap, _∙_}
+use mathlib.Core.List.{List, _++_}
+use Prim.Native.Nat.{ℕ}
 use borrow.Author.Needs.{needs}
-use lib.ListN.{length, getD, replicate}
+use lib.ListN.{length, replicate}
 use Rattle.text.specs.Page.{Prints}
 use Rattle.text.specs.PageLaws.{prints-then, blank}
-use Rattle.machine.specs.Turn.{turnOf}
-use Rattle.playback.specs.declared.Verdict.{Verdict}
-use Rattle.playback.specs.declared.Verdict.the-variants as verdict
 use Rattle.playback.specs.declared.Played.{Played}
-use Rattle.playback_text.specs.declared.Printed.{Printed}
 use Rattle.playback_text.specs.Setup.{setupOf}
-use Rattle.playback_text.specs.Answer.{playText, verdictLine, turnLine, toldLine, linesOf, printedOf}
-use Rattle.playback_text.specs.Laws.{verdict-fits, lines-fit, Within, play-within}
+use Rattle.playback_text.specs.Answer.{playText, verdictLine, toldLine, linesOf, printedOf}
+use Rattle.playback_text.specs.Steps.{Within}
+use Rattle.playback_text.specs.Laws.{verdict-fits, lines-fit, play-within}
 use Rattle.playback_text.proofs.play.Statement.{statement}
 use Rattle.playback_text.proofs.play.Tie as tie
 

@@ -1,15 +1,15 @@
 -- `play_numbers` meets its contract: the numbers after the sixth are the entries of the tables, or the setup is refused; their bytes are played as
 -- they are.
-use mathlib.Core.Path.{_≡_, refl, sym, ap, _∙_}
-use mathlib.Core.Bool.{Bool, true, false, not, _&&_, and-eq-true-iff}
-use mathlib.Core.List.{List, _++_, map}
+use mathlib.Core.Path.{_≡_, sym, ap, _∙_}
+use mathlib.Core.Bool.{Bool, true, false, _&&_, and-eq-true-iff}
+use mathlib.Core.List.{List, map}
 use Prim.Native.Nat.{ℕ, _+_, _-_, _≤_}
 use native.Mathlib.Omega.{arith}
 use borrow.Author.Needs.{needs}
 use borrow.Author.Tests.{eqb-true, not-true, not-false}
 use lib.Dec.{eqb}
 use lib.ListN.{length, take, drop, getD, replicate, length-drop, length-map, length-replicate}
-use lib.Seq.{take-all, take-at, length-take-le}
+use lib.Seq.{take-all, take-at}
 use Rattle.text.specs.Numbers.{low}
 use Rattle.text.specs.NumbersLaws.{over-whole}
 use Rattle.machine.specs.Fresh.{inputsOf}

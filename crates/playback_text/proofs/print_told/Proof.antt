@@ -11,7 +11,7 @@ use Rattle.machine.specs.Turn.{turnOf}
 use Rattle.playback.specs.declared.Verdict.{Verdict}
 use Rattle.playback.specs.declared.Verdict.the-variants as verdict
 use Rattle.playback_text.specs.Answer.{turnLine, toldLine}
-use Rattle.playback_text.specs.Laws.{Within}
+use Rattle.playback_text.specs.Steps.{Within}
 use Rattle.playback_text.proofs.print_told.Statement.{statement}
 use Rattle.playback_text.proofs.print_told.Tie as tie
 

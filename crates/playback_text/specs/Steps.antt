@@ -1,0 +1,12 @@
+-- What a step of the code is promised.
+use mathlib.Core.List.{List}
+use Prim.Native.Nat.{ℕ, _*_, _<_}
+use lib.ListN.{length}
+use Rattle.playback.specs.declared.Verdict.{Verdict}
+use Rattle.playback.specs.declared.Verdict.the-variants as verdict
+
+-- a triple that differs is one of the trace's
+abbrev pub Within : Verdict → List ℕ → Type 0
+Within verdict.Agrees trace = Unit {0}
+Within (verdict.Differs i) trace = 3 * i < length trace
+Within (verdict.Refused k) trace = Unit {0}
