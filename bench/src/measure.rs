@@ -57,8 +57,12 @@ fn time(mut work: impl FnMut()) -> f64 {
     start.elapsed().as_nanos() as f64
 }
 
-/// The middle value; of two middle values the higher one.
+/// The middle value; of two middle values their mean.
 pub fn median(mut values: Vec<f64>) -> f64 {
     values.sort_by(f64::total_cmp);
-    values[values.len() / 2]
+    let middle = values.len() / 2;
+    match values.len() % 2 {
+        0 => (values[middle - 1] + values[middle]) / 2.0,
+        _ => values[middle],
+    }
 }
