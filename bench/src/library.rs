@@ -81,9 +81,9 @@ const UNTOLD: usize = usize::MAX;
 const NO_ROUNDS: u32 = u32::MAX;
 const NO_ROUND: u8 = u8::MAX;
 
-/// A call of a function that begins with a run from a fresh state.
-macro_rules! run_from {
-    ($function:path, $start:expr, $log:expr, $($more:expr),+) => {
+/// A call of a function that begins with a fresh state: what that is made from, and then what else the function takes.
+macro_rules! from_fresh {
+    ($function:path, $start:expr, $($more:expr),+) => {
         // SAFETY: the addresses and lengths are those of slices that live through the call, and the log and the numbers are lent to it alone.
         unsafe {
             $function(
@@ -94,13 +94,24 @@ macro_rules! run_from {
                 $start.parents.len(),
                 $start.starts.as_ptr(),
                 $start.starts.len(),
-                $start.schedule.as_ptr(),
-                $start.schedule.len(),
-                $log.as_mut_ptr(),
-                $log.len(),
                 $($more),+
             )
         }
+    };
+}
+
+/// A call of a function that begins with a run from a fresh state.
+macro_rules! run_from {
+    ($function:path, $start:expr, $log:expr, $($more:expr),+) => {
+        from_fresh!(
+            $function,
+            $start,
+            $start.schedule.as_ptr(),
+            $start.schedule.len(),
+            $log.as_mut_ptr(),
+            $log.len(),
+            $($more),+
+        )
     };
 }
 
@@ -141,22 +152,8 @@ pub fn passes(n: usize, schedule: &[u8], pairs: &mut [u32]) -> Answer {
 /// The schedule of the start is not looked at.
 pub fn play(start: &Start, trace: &[u8]) -> Answer {
     let (mut number, mut agrees) = (UNTOLD, NO_ROUND);
-    // SAFETY: as above; the two numbers are lent to the call alone.
-    let reason = unsafe {
-        raw::tungwaff_play(
-            start.kind,
-            start.n,
-            start.modulus,
-            start.parents.as_ptr(),
-            start.parents.len(),
-            start.starts.as_ptr(),
-            start.starts.len(),
-            trace.as_ptr(),
-            trace.len(),
-            &mut agrees,
-            &mut number,
-        )
-    };
+    let (bytes, length) = (trace.as_ptr(), trace.len());
+    let reason = from_fresh!(raw::tungwaff_play, start, bytes, length, &mut agrees, &mut number);
     Answer { reason, number, rounds: agrees.into() }
 }
 

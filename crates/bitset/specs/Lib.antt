@@ -6,3 +6,4 @@ pub mod Set
 pub mod ChoiceLaws
 pub mod TableLaws
 pub mod SetLaws
+pub mod TasksLaws

@@ -12,6 +12,7 @@ use Rattle.bitset.specs.Choice.{pick}
 use Rattle.bitset.specs.Table.{table}
 use Rattle.bitset.specs.TableLaws.{length-table, table-at}
 use Rattle.bitset.specs.Tasks.{isCount}
+use Rattle.bitset.specs.TasksLaws.{Alike}
 use Rattle.bitset.specs.SetLaws.{is-count, within-bits, bit-zero}
 use Rattle.parents.specs.Parents.{checkOf}
 use Rattle.parents.specs.ParentsLaws.{accepted, entries-below, check-alike}
@@ -87,17 +88,22 @@ below-at bound (x ∷ xs) (suc q) pos e = below-at bound xs q pos (and-eq-true-i
 field-zero : (u : Bool) (bound : ℕ) → (u ≡ true → 0 < bound) → fieldOk u bound 0 ≡ true
 field-zero u bound f = by-test (λ b. b ≡ true) u (λ e. lt-ltb 0 bound (f e)) (λ e. refl)
 
+-- a start table that is given and accepted is the symmetric kind's, and its entries are tasks
+starts-given : (kind n x : ℕ) (xs : List ℕ) → startsReason kind n (x ∷ xs) ≡ 0 → (eqb kind 0 ≡ true) × (allBelow n (x ∷ xs) ≡ true)
+starts-given kind n x xs e =
+    by-test (λ r. r ≡ 0 → (eqb kind 0 ≡ true) × (allBelow n (x ∷ xs) ≡ true)) (eqb kind 0 && eqb (length (x ∷ xs)) n && allBelow n (x ∷ xs))
+    (λ ok _.
+    let all = and-eq-true-iff (eqb kind 0 && eqb (length (x ∷ xs)) n) (allBelow n (x ∷ xs)) .0 ok in
+    (and-eq-true-iff (eqb kind 0) (eqb (length (x ∷ xs)) n) .0 (all .0) .0, all .1))
+    (λ _ z. absurd (omega arith))
+    (rw (ne-eqb (length (x ∷ xs)) 0 (λ z. absurd (omega arith))) at e)
+
 -- the starts of an accepted table are in range
 start-ok : (kind n : ℕ) (starts : List ℕ) (q : ℕ) → 1 ≤ n → startsReason kind n starts ≡ 0 → fieldOk (eqb kind 0) n (startOf starts q) ≡ true
 start-ok kind n [] q some e = field-zero (eqb kind 0) n (λ _. some)
 start-ok kind n (x ∷ xs) q some e =
-    by-test (λ r. r ≡ 0 → fieldOk (eqb kind 0) n (startOf (x ∷ xs) q) ≡ true) (eqb kind 0 && eqb (length (x ∷ xs)) n && allBelow n (x ∷ xs))
-    (λ ok _.
-    let all = and-eq-true-iff _ _ .0 ok in
-    let whole = and-eq-true-iff _ _ .0 (all .0) in
-    used (eqb kind 0) n (startOf (x ∷ xs) q) (whole .0) (below-at n (x ∷ xs) q some (all .1)))
-    (λ _ z. absurd (omega arith))
-    (rw (ne-eqb (length (x ∷ xs)) 0 (λ z. absurd (omega arith))) at e)
+    let given = starts-given kind n x xs e in
+    used (eqb kind 0) n (startOf (x ∷ xs) q) (given .0) (below-at n (x ∷ xs) q some (given .1))
 
 fresh-range : (i : Inputs) (q : ℕ) → Accepted i → TaskRange (freshState i) q (freshTask i q)
 fresh-range i q a =
@@ -203,10 +209,7 @@ withEntries f i = record { kind = i .kind; n = i .n; modulus = i .modulus; paren
 -- a start of an accepted table is a task
 starts-below : (kind n : ℕ) (starts : List ℕ) (q : ℕ) → 1 ≤ n → startsReason kind n starts ≡ 0 → getD starts q 0 < n
 starts-below kind n [] q some e = some
-starts-below kind n (x ∷ xs) q some e =
-    by-test (λ r. r ≡ 0 → getD (x ∷ xs) q 0 < n) (eqb kind 0 && eqb (length (x ∷ xs)) n && allBelow n (x ∷ xs))
-    (λ ok _. below-at n (x ∷ xs) q some (and-eq-true-iff (eqb kind 0 && eqb (length (x ∷ xs)) n) (allBelow n (x ∷ xs)) .0 ok .1)) (λ _ z. absurd (omega arith))
-    (rw (ne-eqb (length (x ∷ xs)) 0 (λ z. absurd (omega arith))) at e)
+starts-below kind n (x ∷ xs) q some e = below-at n (x ∷ xs) q some (starts-given kind n x xs e .1)
 
 -- and so is a parent
 parents-below : (kind n : ℕ) (parents : List ℕ) (q : ℕ) → 1 ≤ n → parentsReason kind n parents ≡ 0 → q < length parents → getD parents q 0 < n
@@ -214,12 +217,12 @@ parents-below kind n parents q some e l =
     by-test (λ r. r ≡ 0 → getD parents q 0 < n) (eqb kind 3) (λ _ t. entries-below parents n q t l)
     (λ _ t. absurd (omega (arith, rw (ne-eqb (length parents) 0 (λ z. omega arith)) at t))) e
 
--- numbers that compare with 0 and with those up to 64 as the entries do, and are the same below 64
-module _ (f : ℕ → ℕ) (zeros : (x : ℕ) → eqb (f x) 0 ≡ eqb x 0) (below : (x n : ℕ) → n ≤ 64 → ltb (f x) n ≡ ltb x n) (fixed : (x : ℕ) → x < 64 → f x ≡ x) where
+-- numbers in place of the entries
+module _ (f : ℕ → ℕ) (alike : Alike f) where
   below-alike : (n : ℕ) (xs : List ℕ) → n ≤ 64 → allBelow n (map f xs) ≡ allBelow n xs
   unfolding allBelow
   below-alike n [] h = refl
-  below-alike n (x ∷ xs) h = rw (below x n h, below-alike n xs h)
+  below-alike n (x ∷ xs) h = rw (alike .below x n h, below-alike n xs h)
 
   -- the tables are looked at only where N is 1 to 64, and are refused alike
   pub entries-reason : (i : Inputs) → freshReason (withEntries f i) ≡ freshReason i
@@ -232,7 +235,7 @@ module _ (f : ℕ → ℕ) (zeros : (x : ℕ) → eqb (f x) 0 ≡ eqb x 0) (belo
       tables : i .n ≤ 64 → firstReason (parentsReason (i .kind) (i .n) (map f (i .parents))) (startsReason (i .kind) (i .n) (map f (i .starts)))
           ≡ firstReason (parentsReason (i .kind) (i .n) (i .parents)) (startsReason (i .kind) (i .n) (i .starts))
       tables few =
-          rw (check-alike f (i .n) zeros (λ x q h. below x q (omega arith)) (i .parents) (fixed 0 (omega arith)), length-map (i .parents) f, length-map (i .starts) f, below-alike (i .n) (i .starts) few)
+          rw (check-alike f (i .n) (alike .zeros) (λ x q h. alike .below x q (omega arith)) (i .parents) (alike .same 0 (omega arith)), length-map (i .parents) f, length-map (i .starts) f, below-alike (i .n) (i .starts) few)
 
       go : (b : Bool) → isCount (i .n) ≡ b
           → reason b (firstReason (parentsReason (i .kind) (i .n) (map f (i .parents))) (startsReason (i .kind) (i .n) (map f (i .starts))))
@@ -243,7 +246,7 @@ module _ (f : ℕ → ℕ) (zeros : (x : ℕ) → eqb (f x) 0 ≡ eqb x 0) (belo
   same-list : (xs : List ℕ) → ((q : ℕ) → q < length xs → getD xs q 0 < 64) → map f xs ≡ xs
   same-list xs h =
       ext-getD 0 (map f xs) xs (length-map xs f)
-      (λ q l. ap (getD (map f xs) q) (sym (fixed 0 (omega arith))) ∙ List·getD-map f xs q 0 ∙ fixed (getD xs q 0) (h q (rw length-map at l)))
+      (λ q l. ap (getD (map f xs) q) (sym (alike .same 0 (omega arith))) ∙ List·getD-map f xs q 0 ∙ alike .same (getD xs q 0) (h q (rw length-map at l)))
 
   -- those that are accepted are the same
   pub entries-same : (i : Inputs) → freshReason i ≡ 0 → withEntries f i ≡ i

@@ -1,4 +1,4 @@
--- What 02 asks of play-back (P4), over what a call answers: agreement exactly where every triple is what the defined turn does, the state of the run
+-- What 02 asks of play-back (P4), over what a call answers, in the words of `Agreement`: agreement exactly where every triple is what the defined turn does, the state of the run
 -- of the trace's tasks, every run woven into triples, and every cut of a trace that agrees.
 use mathlib.Core.Path.{_≡_, sym, ap, _∙_, subst}
 use mathlib.Core.List.{List, [], _++_, map}
@@ -20,9 +20,10 @@ use Rattle.runner.specs.Run.{logOf, runReason, runOf, logAfter, runTrace}
 use Rattle.runner.specs.RunLaws.{run-accepts, run-refuses}
 use Rattle.playback.specs.declared.Verdict.the-variants as verdict
 use Rattle.playback.specs.declared.Played.{Played}
+use Rattle.playback.specs.Agreement.{tasksOf, AllDo, FirstAt, woven, wovenRun}
 use Rattle.playback.specs.Playback.{triplesOf, playFrom, playReason, playOf}
 use Rattle.playback.specs.StepsLaws.{length-triples}
-use Rattle.playback.specs.PlaybackLaws.{reason-fresh, reason-trace, play-refused, play-accepted, trace-taken, taken-trace, AllDo, FirstAt, tasksOf, agrees-exactly, differs-first, agrees-run, cut-does, triples-take, woven, rowTask, made-plays, woven-triples, woven-length}
+use Rattle.playback.specs.PlaybackLaws.{reason-fresh, reason-trace, play-refused, play-accepted, trace-taken, taken-trace, agrees-exactly, differs-first, agrees-run, cut-does, triples-take, rowTask, made-plays, woven-triples, woven-length}
 
 -- a verdict other than a refusal is given only where no reason applies
 accepted : (i : Inputs) (trace : List ℕ) → ((k : ℕ) → playOf i trace .verdict ≢ verdict.Refused k) → playReason i trace ≡ 0
@@ -86,10 +87,6 @@ cut-plays i trace k e =
     )
 
 -- ---- runs
-
--- the schedule of a run and the log after it, woven into triples, as far as the turns that it made
-abbrev pub wovenRun : State → List ℕ → ℕ → List ℕ → List ℕ
-wovenRun s schedule allowance log = woven (take (runOf s schedule allowance log .turns) schedule) (logAfter s schedule allowance log)
 
 -- what a run that is refused as a whole, and one that isn't, have woven
 module _ (s : State) (schedule : List ℕ) (allowance : ℕ) (log : List ℕ) where

@@ -1,4 +1,4 @@
--- The laws of play-back that 02 asks for, and those of its reasons.
+-- Laws of play-back: of its reasons, of the triples that agree and the first that does not, of the run of their tasks, of cuts, and of runs woven into triples.
 use mathlib.Core.Path.{_≡_, refl, sym, ap, _∙_, subst}
 use mathlib.Core.Bool.{true, false, true≢false, and-eq-true-iff}
 use mathlib.Core.List.{List, [], _∷_, _++_, map}
@@ -6,28 +6,28 @@ use mathlib.Core.Logic.{_≢_, _↔_}
 use Prim.Native.Nat.{ℕ, zero, suc, _+_, _*_, _%_, _≤_, _<_, min}
 use native.Mathlib.Omega.{arith}
 use lib.Dec.{eqb, leb}
-use lib.ListN.{length, take, getD, length-take, length-map, List·getD-map}
+use lib.ListN.{length, take, length-take, length-map, List·getD-map}
 use lib.Seq.{take-all, take-take, getD-take}
 use borrow.Author.Tests.{eq-eqb, ne-eqb, le-leb, le-ltb, leb-true, eqb-true}
 use Rattle.bitset.specs.ChoiceLaws.{by-test}
 use Rattle.schedule.specs.Passes.{maxTurns, allTasks}
 use Rattle.schedule.specs.PassesLaws.{all-known}
 use Rattle.machine.specs.declared.State.{State}
-use Rattle.machine.specs.declared.Move.{Move}
 use Rattle.machine.specs.declared.Outcome.{Outcome}
 use Rattle.machine.specs.declared.Outcome.the-variants.{Made, Refused}
 use Rattle.machine.specs.Setters.{taskAt}
 use Rattle.machine.specs.Fresh.{Inputs, freshReason, freshState}
 use Rattle.machine.specs.Range.{Valid}
 use Rattle.machine.specs.Turn.{turnOf, moveNumber}
-use Rattle.machine.specs.TurnLaws.{move-le, turn-makes, turn-constants}
+use Rattle.machine.specs.TurnLaws.{move-le, turn-makes}
 use Rattle.runner.specs.declared.Ending.the-variants.{Done}
 use Rattle.runner.specs.Trace.{Row, nothing, Trace, turned, traceOf}
-use Rattle.runner.specs.TraceLaws.{trace-none, trace-turn, made-all, trace-keeps}
+use Rattle.runner.specs.TraceLaws.{trace-none, trace-turn, made-all, trace-n}
 use Rattle.runner.specs.Run.{logOf, unstopped, endingOf, runReason, runOf}
 use Rattle.runner.specs.RunLaws.{run-accepts, run-unrefused}
 use Rattle.playback.specs.declared.Verdict.the-variants as verdict
 use Rattle.playback.specs.declared.Played.{Played}
+use Rattle.playback.specs.Agreement.{Does, tasksOf, ledTo, tripleIn, AllDo, FirstAt, woven}
 use Rattle.playback.specs.Playback.{Triple, triplesOf, equals, does, playFrom, traceReason, playReason, refusedPlay, playOf}
 
 -- ---- the reasons
@@ -73,13 +73,6 @@ at-65537 trace e = rw e
 
 -- ---- what agrees
 
--- a triple equals what the defined turn of its task does in the state s: "task, line before, 1 moved or 0 waited"
-pub record Does (s : State) (t : Triple) : Type 0 where
-  pub how : Move
-  pub made : turnOf s (t .task) .outcome ≡ Made how
-  pub line : t .line ≡ taskAt s (t .task) .line
-  pub told : t .how ≡ moveNumber how
-
 does-true : (s : State) (t : Triple) → does s t ≡ true → Does s t
 does-true s t = go (turnOf s (t .task) .outcome) refl
   where
@@ -102,21 +95,6 @@ outcome-differs s t h d = omega (arith, d .told, move-le (d .how))
 pub refused-differs : (s : State) (t : Triple) (k : ℕ) → turnOf s (t .task) .outcome ≡ Refused k → Does s t → ⊥
 refused-differs s t k e d = let made = d .made in let z : _≡_ {A = ℕ} 0 1 = cc in omega arith
 
--- the tasks of triples, and the state that the first i of them lead to
-abbrev pub tasksOf : List Triple → List ℕ
-tasksOf ts = map (λ (t : Triple). t .task) ts
-
-abbrev pub ledTo : State → List Triple → ℕ → State
-ledTo s ts i = traceOf s (tasksOf (take i ts)) .state
-
--- the triple at a place; past the last one there is none, and this is not asked
-abbrev pub tripleIn : List Triple → ℕ → Triple
-tripleIn ts i = getD ts i (record { task = 0; line = 0; how = 0 })
-
--- every triple equals what the defined turn does from the state that the triples before lead to
-abbrev pub AllDo : State → List Triple → Type 0
-AllDo s ts = (i : ℕ) → i < length ts → Does (ledTo s ts i) (tripleIn ts i)
-
 -- past a triple that does, the others lead on from the state after its turn
 led-on : (s : State) (t : Triple) (ts : List Triple) (i : ℕ) → Does s t → ledTo s (t ∷ ts) (suc i) ≡ ledTo (turnOf s (t .task) .state) ts i
 led-on s t ts i d =
@@ -137,7 +115,7 @@ module _ (s : State) (t : Triple) (ts : List Triple) where
   all-do d more zero l = subst (λ (x : State). Does x t) (sym (led-none s (t ∷ ts))) d
   all-do d more (suc i) l = subst (λ (x : State). Does x (tripleIn ts i)) (sym (led-on s t ts i d)) (more i (omega arith))
 
--- a triple differs from one that agrees
+-- to differ is not to agree
 differs-agrees : (i : ℕ) → verdict.Differs i ≡ verdict.Agrees → ⊥
 differs-agrees i e = let z : _≡_ {A = ℕ} 0 1 = cc in omega arith
 
@@ -169,13 +147,6 @@ agrees-trace s i (t ∷ ts) all =
     rw (true-does s t d, trace-turn s (t .task) (tasksOf ts), d .made) (agrees-trace (turnOf s (t .task) .state) _ ts (rest-do s t ts all))
 
 -- ---- the first that differs
-
--- the triples before it do what their turns do, it does not, and the state is the one that those before lead to
-pub record FirstAt (s : State) (ts : List Triple) (k : ℕ) (end : State) : Type 0 where
-  pub within : k < length ts
-  pub before : AllDo s (take k ts)
-  pub other : Does (ledTo s ts k) (tripleIn ts k) → ⊥
-  pub state : end ≡ ledTo s ts k
 
 first-later : (s : State) (t : Triple) (ts : List Triple) (k : ℕ) (end : State) → Does s t → FirstAt (turnOf s (t .task) .state) ts k end → FirstAt s (t ∷ ts) (suc k) end
 first-later s t ts k end d f =
@@ -227,16 +198,13 @@ play-keeps P keeps s i (t ∷ ts) h =
 
 -- ---- the run of the tasks
 
-same-n : (s : State) (ts : List ℕ) → traceOf s ts .state .n ≡ s .n
-same-n s ts = trace-keeps (λ x. x .n ≡ s .n) (λ x p e. turn-constants x p .n ∙ e) s ts refl
-
 -- each of them is a task
 tasks-known : (s : State) (ts : List Triple) → AllDo s ts → allTasks (s .n) (tasksOf ts) ≡ true
 tasks-known s ts all =
     all-known (s .n) (tasksOf ts) .1
     (λ i l. let d = all i (rw (length-map ts (λ (t : Triple). t .task)) at l) in
     rw (List·getD-map (λ (t : Triple). t .task) ts i (record { task = 0; line = 0; how = 0 }))
-    (omega (arith, turn-makes (ledTo s ts i) (tripleIn ts i .task) (d .how) (d .made) .known, same-n s (tasksOf (take i ts)))))
+    (omega (arith, turn-makes (ledTo s ts i) (tripleIn ts i .task) (d .how) (d .made) .known, trace-n s (tasksOf (take i ts)))))
 
 -- nothing refuses their run, which makes every turn, and leaves the state of the play-back
 pub agrees-run : (s : State) (ts : List Triple) (log : List ℕ) → Valid s → length ts ≤ maxTurns → 2 * length ts ≤ length log → AllDo s ts
@@ -280,13 +248,6 @@ triples-take (suc k) trace = let e : 3 * suc k ≡ suc (suc (suc (3 * k))) = ome
     go (a ∷ b ∷ c ∷ rest) more = ap (λ (ts : List Triple). record { task = a; line = b; how = c } ∷ ts) (more rest)
 
 -- ---- a run, woven into triples
-
--- a schedule and a log, a task and its turn's two bytes at a time
-unfoldable pub woven : List ℕ → List ℕ → List ℕ
-woven [] log = []
-woven (p ∷ ts) [] = []
-woven (p ∷ ts) (line ∷ []) = []
-woven (p ∷ ts) (line ∷ how ∷ log) = p ∷ line ∷ how ∷ woven ts log
 
 -- the triple of a turn that was made
 abbrev pub rowTriple : Row → Triple

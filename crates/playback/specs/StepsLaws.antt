@@ -26,6 +26,7 @@ use Rattle.runner.specs.Trace.{turned, traceOf}
 use Rattle.runner.specs.TraceLaws.{trace-none, trace-turn, trace-stays, made-few}
 use Rattle.runner.specs.Run.{logOf, runReason, runOf, logAfter}
 use Rattle.runner.specs.RunLaws.{length-log, run-accepts, run-unrefused}
+use Rattle.playback.specs.declared.Verdict.{Verdict}
 use Rattle.playback.specs.declared.Verdict.the-variants as verdict
 use Rattle.playback.specs.declared.Played.{Played}
 use Rattle.playback.specs.declared.Part.{Part}
@@ -245,12 +246,16 @@ module _ (s : State) (trace : List ℕ) (ok : Valid s) (few : length trace ≤ 1
 
 -- ---- part after part
 
--- triples that agree lead on to those after them
-play-on : (s : State) (i : ℕ) (ts us : List Triple) → playFrom s i ts .verdict ≡ verdict.Agrees
-    → playFrom s i (ts ++ us) ≡ playFrom (playFrom s i ts .state) (i + length ts) us
+-- what is reported of triples and then of those after them, which are asked only where the first agree
+abbrev onward : Verdict → State → ℕ → List Triple → Played
+onward verdict.Agrees s i us = playFrom s i us
+onward (verdict.Differs k) s i us = record { state = s; verdict = verdict.Differs k }
+onward (verdict.Refused k) s i us = record { state = s; verdict = verdict.Refused k }
+
+play-append : (s : State) (i : ℕ) (ts us : List Triple) → playFrom s i (ts ++ us) ≡ onward (playFrom s i ts .verdict) (playFrom s i ts .state) (i + length ts) us
 unfolding playFrom
-play-on s i [] us e = rw (add-zero i)
-play-on s i (t ∷ ts) us e = go (does s t) e (play-on (turnOf s (t .task) .state) (suc i) ts us)
+play-append s i [] us = rw (add-zero i)
+play-append s i (t ∷ ts) us = go (does s t) (play-append (turnOf s (t .task) .state) (suc i) ts us)
   where
     rest : List Triple → Played
     rest vs = playFrom (turnOf s (t .task) .state) (suc i) vs
@@ -258,39 +263,21 @@ play-on s i (t ∷ ts) us e = go (does s t) e (play-on (turnOf s (t .task) .stat
     differs : Played
     differs = record { state = s; verdict = verdict.Differs i }
 
-    go : (b : Bool) → pick b (rest ts) differs .verdict ≡ verdict.Agrees
-        → (rest ts .verdict ≡ verdict.Agrees → rest (ts ++ us) ≡ playFrom (rest ts .state) (suc i + length ts) us)
-        → pick b (rest (ts ++ us)) differs ≡ playFrom (pick b (rest ts) differs .state) (i + suc (length ts)) us
-    go true e ih = let more : suc i + length ts ≡ i + suc (length ts) = omega arith in ih e ∙ rw more
-    go false e ih = let z : _≡_ {A = ℕ} 0 1 = cc in absurd (omega arith)
-
--- after one that differs nothing is asked
-play-off : (s : State) (i : ℕ) (ts us : List Triple) (k : ℕ) → playFrom s i ts .verdict ≡ verdict.Differs k → playFrom s i (ts ++ us) ≡ playFrom s i ts
-unfolding playFrom
-play-off s i [] us k e = let z : _≡_ {A = ℕ} 0 1 = cc in absurd (omega arith)
-play-off s i (t ∷ ts) us k e = go (does s t) e (play-off (turnOf s (t .task) .state) (suc i) ts us k)
-  where
-    rest : List Triple → Played
-    rest vs = playFrom (turnOf s (t .task) .state) (suc i) vs
-
-    differs : Played
-    differs = record { state = s; verdict = verdict.Differs i }
-
-    go : (b : Bool) → pick b (rest ts) differs .verdict ≡ verdict.Differs k → (rest ts .verdict ≡ verdict.Differs k → rest (ts ++ us) ≡ rest ts)
-        → pick b (rest (ts ++ us)) differs ≡ pick b (rest ts) differs
-    go true e ih = ih e
-    go false e ih = refl
+    go : (b : Bool) → rest (ts ++ us) ≡ onward (rest ts .verdict) (rest ts .state) (suc i + length ts) us
+        → pick b (rest (ts ++ us)) differs ≡ onward (pick b (rest ts) differs .verdict) (pick b (rest ts) differs .state) (i + suc (length ts)) us
+    go true ih = ih ∙ ap (λ (k : ℕ). onward (rest ts .verdict) (rest ts .state) k us) (omega arith)
+    go false ih = refl
 
 module _ (s : State) (i : ℕ) (ts us : List Triple) (r : Part) (reports : Reports s ts r) where
   pub part-on : r .same ≡ length ts → playFrom s i (ts ++ us) ≡ playFrom (r .state) (i + length ts) us
   part-on all =
       let is : playFrom s i ts ≡ record { state = r .state; verdict = verdict.Agrees } = reports .1 i ∙ rw (eq-eqb (r .same) (length ts) all) in
-      play-on s i ts us (ap (λ (p : Played). p .verdict) is) ∙ ap (λ (p : Played). playFrom (p .state) (i + length ts) us) is
+      play-append s i ts us ∙ ap (λ (p : Played). onward (p .verdict) (p .state) (i + length ts) us) is
 
   pub part-off : r .same ≢ length ts → playFrom s i (ts ++ us) ≡ record { state = r .state; verdict = verdict.Differs (i + r .same) }
   part-off ne =
       let is : playFrom s i ts ≡ record { state = r .state; verdict = verdict.Differs (i + r .same) } = reports .1 i ∙ rw (ne-eqb (r .same) (length ts) ne) in
-      play-off s i ts us (i + r .same) (ap (λ (p : Played). p .verdict) is) ∙ is
+      play-append s i ts us ∙ ap (λ (p : Played). onward (p .verdict) (p .state) (i + length ts) us) is
 
 -- the triples of a trace that is cut at a triple
 pub triples-append : (xs ys : List ℕ) → length xs % 3 ≡ 0 → triplesOf (xs ++ ys) ≡ triplesOf xs ++ triplesOf ys

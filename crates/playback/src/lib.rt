@@ -31,7 +31,7 @@ struct Part {
 }
 
 // The most triples of a part.
-const MOST: usize = 4096;
+const PART: usize = 4096;
 
 // 0, or the reason that refuses a trace: 8 or 14.
 fn trace_reason(trace: &[u8]) -> u8
@@ -88,8 +88,8 @@ fn play_part(state: State, trace: &[u8]) -> Part
     requires { ⌜ length (now trace) ≤ 12288 ⌝ }
     ensures { λ r. ⌜ Reports state (triplesOf (now (trace .entry))) r ⌝ }
 {
-    let mut tasks = [0u8; MOST];
-    let mut log = [0u8; 2 * MOST];
+    let mut tasks = [0u8; PART];
+    let mut log = [0u8; 2 * PART];
     let known = known_tasks(state.n as usize, trace, &mut tasks);
     let ran = runner::run(state, &tasks[..known], known, &mut log);
     let made = ran.turns;
@@ -122,7 +122,7 @@ fn play_from(state: State, trace: &[u8]) -> Played
     let mut reached = state;
     let mut at = 0;
     while at < trace.len() {
-        let end = smaller(at + 3 * MOST, trace.len());
+        let end = smaller(at + 3 * PART, trace.len());
         let part = play_part(reached, &trace[at..end]);
         reached = part.state;
         if part.same < (end - at) / 3 {
@@ -140,7 +140,7 @@ fn play_from(state: State, trace: &[u8]) -> Played
 }
 
 // The answer of a play-back that is refused.
-fn refused(reason: u8) -> Played
+pub fn refused(reason: u8) -> Played
     ensures { λ r. ⌜ r ≡ refusedPlay reason ⌝ }
 {
     Played {

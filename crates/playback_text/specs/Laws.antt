@@ -1,13 +1,13 @@
 -- Laws of play-back from a setup text: what its numbers say, that their bytes say the same, and that what is printed fits.
 use mathlib.Core.Path.{_≡_, refl, sym, ap, _∙_}
-use mathlib.Core.List.{List, [], _∷_, map}
+use mathlib.Core.List.{List, [], _∷_}
 use mathlib.Core.Option.{Option, none, some}
-use Prim.Native.Nat.{ℕ, zero, suc, _+_, _*_, _≤_, _<_}
+use Prim.Native.Nat.{ℕ, _+_, _*_, _≤_, _<_}
 use native.Mathlib.Decide.{ℕ-discrete}
 use native.Mathlib.Omega.{arith}
-use lib.ListN.{length, take, drop, getD, length-append}
+use lib.ListN.{length, drop, getD, length-append}
 use Rattle.text.specs.Numbers.{low}
-use Rattle.text.specs.NumbersLaws.{low-same, low-below, low-zero}
+use Rattle.text.specs.NumbersLaws.{low-alike}
 use Rattle.text.specs.Decimal.{refusedWord}
 use Rattle.text.specs.DecimalLaws.{decimal-most}
 use Rattle.machine.specs.declared.State.{State}
@@ -50,26 +50,15 @@ fewer (a ∷ b ∷ c ∷ d ∷ e ∷ f ∷ ns) h = absurd (omega arith)
 
 -- ---- their bytes
 
--- the bytes of the first k numbers, and of those after them
-pub low-first : (k : ℕ) (xs : List ℕ) → take k (map low xs) ≡ map low (take k xs)
-low-first zero xs = refl
-low-first (suc k) [] = refl
-low-first (suc k) (x ∷ xs) = ap (λ (l : List ℕ). low x ∷ l) (low-first k xs)
-
-pub low-rest : (k : ℕ) (xs : List ℕ) → drop k (map low xs) ≡ map low (drop k xs)
-low-rest zero xs = refl
-low-rest (suc k) [] = refl
-low-rest (suc k) (x ∷ xs) = low-rest k xs
-
 -- the bytes of the tables are played as the tables are
 pub low-play : (i : Inputs) (trace : List ℕ) → playOf (withEntries low i) trace ≡ playOf i trace
 low-play i trace = go (ℕ-discrete (freshReason i) 0)
   where
     reason : freshReason (withEntries low i) ≡ freshReason i
-    reason = entries-reason low low-zero (λ x n h. low-below x n (omega arith)) (λ x h. low-same x (omega arith)) i
+    reason = entries-reason low low-alike i
 
     go : Dec (freshReason i ≡ 0) → playOf (withEntries low i) trace ≡ playOf i trace
-    go (yes e) = ap (λ (j : Inputs). playOf j trace) (entries-same low low-zero (λ x n h. low-below x n (omega arith)) (λ x h. low-same x (omega arith)) i e)
+    go (yes e) = ap (λ (j : Inputs). playOf j trace) (entries-same low low-alike i e)
     go (no ne) =
         let first = reason-fresh i trace ne in
         let low-first = reason-fresh (withEntries low i) trace (λ z. ne (sym reason ∙ z)) in

@@ -14,7 +14,7 @@ ghost use Rattle.text.specs.Page.{Prints};
 ghost use Rattle.machine.specs.Setters.{taskAt};
 ghost use Rattle.machine.specs.Fresh.{inputsOf};
 ghost use Rattle.machine.specs.Turn.{turnOf};
-ghost use Rattle.playback.specs.Playback.{refusedPlay, playOf};
+ghost use Rattle.playback.specs.Playback.{playOf};
 ghost use Rattle.playback_text.specs.Setup.{setupIn};
 ghost use Rattle.playback_text.specs.Answer as defs;
 ghost use Rattle.playback_text.specs.Steps.{Within};
@@ -24,16 +24,6 @@ pub struct Printed {
     pub bytes: [u8; 128],
     pub verdict: usize,
     pub len: usize,
-}
-
-// A setup that is refused 1.
-fn refused() -> Played
-    ensures { λ r. ⌜ r ≡ refusedPlay 1 ⌝ }
-{
-    Played {
-        state: State::zero(),
-        verdict: Verdict::Refused(1),
-    }
 }
 
 // Plays a trace from the tables one after the other: so many parents, and then the starts.
@@ -60,7 +50,7 @@ fn play_numbers(numbers: &[u32], trace: &[u8]) -> Played
     let count = numbers.len() - 6;
     let whole = (numbers[5] == 0) & (count == parents + starts);
     if !whole {
-        return refused();
+        return playback::refused(1);
     }
     let mut bytes = [0u8; 32768];
     text::read::bytes(&numbers[6..], &mut bytes);
@@ -74,10 +64,10 @@ fn play_text(setup: &[u8], trace: &[u8]) -> Played
     let mut numbers = [0u32; 32768];
     let found = text::read::numbers(setup, &mut numbers);
     let Found::Count(count) = found else {
-        return refused();
+        return playback::refused(1);
     };
     if count < 6 {
-        return refused();
+        return playback::refused(1);
     }
     play_numbers(&numbers[..count], trace)
 }

@@ -26,7 +26,7 @@ use Rattle.machine.specs.Range.{checkState, Valid}
 use Rattle.machine.specs.Least.{least}
 use Rattle.machine.specs.Setters.{movesAt, waitsAt}
 use Rattle.machine.specs.Turn.{turnOf, moveNumber, waitNumber, closedNumber}
-use Rattle.machine.specs.TurnLaws.{move-le, wait-le, move-or-wait, turn-constants}
+use Rattle.machine.specs.TurnLaws.{move-le, wait-le, move-or-wait}
 use Rattle.machine.specs.KeepLaws.{turn-valid}
 use Rattle.machine.specs.CountLaws.{turn-refusals}
 use Rattle.machine.specs.TallyLaws.{turn-tallies}
@@ -34,7 +34,7 @@ use Rattle.machine.specs.RoundLaws.{turn-closed, turn-round}
 use Rattle.runner.specs.declared.Ending.the-variants.{Stopped}
 use Rattle.runner.specs.declared.Ran.{Ran}
 use Rattle.runner.specs.Trace.{Row, Stop, nothing, refusal, Trace, turned, traceOf}
-use Rattle.runner.specs.TraceLaws.{trace-none, trace-turn, made-few, turns-made, trace-keeps, StoppedAt, stopped-at}
+use Rattle.runner.specs.TraceLaws.{trace-none, trace-turn, made-few, turns-made, trace-keeps, trace-n, StoppedAt, stopped-at}
 use Rattle.runner.specs.Run.{tallyIn, movesIn, waitsIn, roundsIn, logOf, unstopped, endingReason, runReason, runPlace, runTrace, ranOf, refusedRun, runOf}
 
 -- ---- tallies
@@ -147,7 +147,7 @@ run-makes s schedule allowance log e = rw (run-accepts s schedule allowance log 
         why : (p k : ℕ) → StoppedAt t (take allowance schedule) p k → getD schedule (length (t .made)) 0 ≡ p → (k ≡ 7) ⊎ ((k ≡ 11) ⊎ (k ≡ 13))
         why p k a here =
             turn-refusals (t .state) p k (trace-keeps Valid turn-valid s (take allowance schedule) (accepted .0))
-            (rw (trace-keeps (λ x. x .n ≡ s .n) (λ x q same. turn-constants x q .n ∙ same) s (take allowance schedule) refl, ← here)
+            (rw (trace-n s (take allowance schedule), ← here)
             (all-known (s .n) schedule .0 (accepted .1) (length (t .made)) (omega (arith, a .fewer, few))))
             (a .refused)
 

@@ -10,6 +10,7 @@ use Rattle.machine.specs.declared.Outcome.{Outcome}
 use Rattle.machine.specs.declared.Outcome.the-variants.{Made, Refused}
 use Rattle.machine.specs.Setters.{taskAt}
 use Rattle.machine.specs.Turn.{turnOf}
+use Rattle.machine.specs.TurnLaws.{turn-constants}
 use Rattle.runner.specs.Trace.{Row, Stop, nothing, refusal, Trace, turned, traceOf, countedStop}
 
 -- a refusal is a stop
@@ -110,6 +111,10 @@ trace-keeps P k s (p ∷ ts) h = go (turnOf s p .outcome) (trace-keeps P k (turn
     go : (o : Outcome) → P (traceOf (turnOf s p .state) ts .state) → P (turned s p o (traceOf (turnOf s p .state) ts) .state)
     go (Made how) r = r
     go (Refused k) r = h
+
+-- so the number of tasks stays
+pub trace-n : (s : State) (ts : List ℕ) → traceOf s ts .state .n ≡ s .n
+trace-n s ts = trace-keeps (λ x. x .n ≡ s .n) (λ x p e. turn-constants x p .n ∙ e) s ts refl
 
 -- ---- where a refusal ends it
 

@@ -1,5 +1,5 @@
 -- Laws of what is printed: row by row, and how long it is.
-use mathlib.Core.Path.{_≡_, refl, ap, _∙_}
+use mathlib.Core.Path.{_≡_, refl, ap}
 use mathlib.Core.Bool.{Bool, true, false}
 use mathlib.Core.List.{List, [], _∷_, _++_, append-nil}
 use mathlib.Core.Logic.{_≢_}
@@ -18,13 +18,12 @@ use Rattle.machine.specs.declared.State.{State}
 use Rattle.machine.specs.Setters.{taskAt}
 use Rattle.machine.specs.Range.{Valid}
 use Rattle.machine.specs.Least.{least}
-use Rattle.machine.specs.TurnLaws.{turn-constants}
 use Rattle.machine.specs.RangeLaws.{line-18, InRange, range}
 use Rattle.machine.specs.KeepLaws.{turn-valid}
 use Rattle.machine.specs.LeastLaws.{least-le}
 use Rattle.runner.specs.Trace.{traceOf}
 use Rattle.runner.specs.Run.{movesIn, waitsIn}
-use Rattle.runner.specs.TraceLaws.{trace-keeps}
+use Rattle.runner.specs.TraceLaws.{trace-keeps, trace-n}
 use Rattle.runner.specs.RunLaws.{moves-few, waits-few}
 use Rattle.sheet_text.specs.Print.{rowWith, rowOf, rowsBy, placeWord, tableWith, refusalOf}
 use Rattle.sheet_text.specs.Steps.{tableFrom}
@@ -79,14 +78,10 @@ module _ (s : State) (ts : List ℕ) (ok : Valid s) (few : length ts ≤ 65536) 
   ended : InRange (traceOf s ts .state)
   ended = range (traceOf s ts .state) (trace-keeps Valid turn-valid s ts ok)
 
-  -- the number of tasks stays
-  pub same-n : traceOf s ts .state .n ≡ s .n
-  same-n = trace-keeps (λ x. x .n ≡ s .n) (λ x p e. turn-constants x p .n ∙ e) s ts refl
-
   row-fits : (q : ℕ) → q < s .n → length (rowOf (traceOf s ts) q) ≤ 26
   row-fits q h =
       let t = traceOf s ts in
-      let r = ended .tasks q (rw same-n h) in
+      let r = ended .tasks q (rw (trace-n s ts) h) in
       omega (
         arith,
         row-length q (taskAt (t .state) q .line) (taskAt (t .state) q .count) (movesIn (t .made) q) (waitsIn (t .made) q),

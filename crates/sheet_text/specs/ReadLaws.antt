@@ -5,7 +5,7 @@ use mathlib.Core.List.{List, map}
 use Prim.Native.Nat.{ℕ, _≤_}
 use native.Mathlib.Omega.{arith}
 use Rattle.text.specs.Numbers.{low}
-use Rattle.text.specs.NumbersLaws.{low-same, low-below, low-zero, low-list}
+use Rattle.text.specs.NumbersLaws.{low-below, low-list, low-alike}
 use Rattle.schedule.specs.Passes.{unknownAt, allTasks}
 use Rattle.schedule.specs.PassesLaws.{all-known, unknown-alike}
 use Rattle.machine.specs.Fresh.{Inputs, freshReason}
@@ -27,8 +27,8 @@ abbrev pub lowInputs : Inputs → Inputs
 lowInputs i = withEntries low i
 
 pub low-reason : (i : Inputs) → freshReason (lowInputs i) ≡ freshReason i
-low-reason = entries-reason low low-zero (λ x n h. low-below x n (omega arith)) (λ x h. low-same x (omega arith))
+low-reason = entries-reason low low-alike
 
 -- tables that are accepted are their own bytes
 pub low-inputs : (i : Inputs) → freshReason i ≡ 0 → lowInputs i ≡ i
-low-inputs = entries-same low low-zero (λ x n h. low-below x n (omega arith)) (λ x h. low-same x (omega arith))
+low-inputs = entries-same low low-alike

@@ -23,6 +23,7 @@ use Rattle.machine.specs.Least.{leastUpTo}
 use Rattle.machine.specs.LeastLaws.{least-is}
 use Rattle.runner.specs.declared.Ran.{Ran}
 use Rattle.runner.specs.Trace.{Trace, traceOf}
+use Rattle.runner.specs.TraceLaws.{trace-n}
 use Rattle.runner.specs.Run.{movesIn, waitsIn, unstopped, ranOf, runOf}
 use Rattle.runner.specs.RunLaws.{run-accepts, run-unrefused}
 use Rattle.sheet_text.specs.declared.Cut.{Cut}
@@ -31,7 +32,7 @@ use Rattle.sheet_text.specs.Read.{Five, five, refused, readNumbers, chec
 use Rattle.sheet_text.specs.Print.{rowOf, rowsBy, tableWith, refusalOf, tableOf, printed}
 use Rattle.sheet_text.specs.Steps.{ranRow, tableFrom, sheetFrom}
 use Rattle.sheet_text.specs.ReadLaws.{lowInputs, low-reason, low-inputs, low-unknown, low-turns}
-use Rattle.sheet_text.specs.PrintLaws.{rows-same, same-n}
+use Rattle.sheet_text.specs.PrintLaws.{rows-same}
 
 -- ---- the passes and the run of a state in range
 
@@ -68,7 +69,7 @@ module _ (s : State) (ts : List ℕ) (ok : Valid s) (few : length ts ≤ 32768) 
         → tableWith (rowsBy (ranRow r) (s .n)) (length (passesOf (s .n) ts)) (leastUpTo (r .state) (s .n - 1)) ≡ tableFrom s ts
     unfolding tableFrom
     ran-table log h r e =
-        rw (e, ran log h, least-is (traceOf s ts .state), same-n s ts ok (omega arith))
+        rw (e, ran log h, least-is (traceOf s ts .state), trace-n s ts)
         (ap (λ (rows : List ℕ). tableWith rows (length (passesOf (s .n) ts)) (leastUpTo (traceOf s ts .state) (s .n - 1))) (rows-same (ranRow (ranOf t (unstopped (length ts) (length ts)))) (rowOf t) (s .n) same))
       where
         t : Trace

@@ -10,6 +10,7 @@ use lib.ListN.{length, take, drop, set, getD, length-append, length-take, length
 use lib.Seq.{take-at, take-all, take-nil, ext-getD}
 use borrow.Author.Tests.{lt-ltb, le-ltb, ne-eqb, leb-true}
 use Rattle.bitset.specs.ChoiceLaws.{by-test}
+use Rattle.bitset.specs.TasksLaws.{Alike}
 use Rattle.text.specs.declared.read.Found.{Found}
 use Rattle.text.specs.declared.read.Found.the-variants.{Count, Bad}
 use Rattle.text.specs.Numbers.{isDigit, isSpace, ended, numbersFrom, maxText, numbersOf, foundOf, over, numbersOver, low}
@@ -134,3 +135,17 @@ low-drop (suc k) (x ∷ xs) ys =
     let e : min (suc k) (suc (length xs)) ≡ suc (min k (length xs)) = omega arith in
     let d : suc (length xs) - suc (min k (length xs)) ≡ length xs - min k (length xs) = omega arith in
     rw (e, d) (low-drop k xs ys)
+
+pub low-first : (k : ℕ) (xs : List ℕ) → take k (map low xs) ≡ map low (take k xs)
+low-first zero xs = refl
+low-first (suc k) [] = refl
+low-first (suc k) (x ∷ xs) = ap (λ (l : List ℕ). low x ∷ l) (low-first k xs)
+
+pub low-rest : (k : ℕ) (xs : List ℕ) → drop k (map low xs) ≡ map low (drop k xs)
+low-rest zero xs = refl
+low-rest (suc k) [] = refl
+low-rest (suc k) (x ∷ xs) = low-rest k xs
+
+-- a byte stands for its number among the numbers of tasks
+pub low-alike : Alike low
+low-alike = record { zeros = low-zero; below = λ x n h. low-below x n (omega arith); same = λ x h. low-same x (omega arith) }

@@ -11,12 +11,12 @@ use lib.Dec.{eqb}
 use lib.ListN.{length, take, drop, getD, replicate, length-drop, length-map, length-replicate}
 use lib.Seq.{take-all, take-at}
 use Rattle.text.specs.Numbers.{low}
-use Rattle.text.specs.NumbersLaws.{over-whole}
+use Rattle.text.specs.NumbersLaws.{over-whole, low-first, low-rest}
 use Rattle.machine.specs.Fresh.{inputsOf}
 use Rattle.playback.specs.Playback.{refusedPlay, playOf}
 use Rattle.playback_text.specs.Setup.{setupIn}
 use Rattle.playback_text.specs.Answer.{playIn}
-use Rattle.playback_text.specs.Laws.{six, low-first, low-rest, low-play}
+use Rattle.playback_text.specs.Laws.{six, low-play}
 use Rattle.playback_text.proofs.play_numbers.Statement.{statement}
 use Rattle.playback_text.proofs.play_numbers.Tie as tie
 
