@@ -16,7 +16,7 @@ use Rattle.lines.specs.Common.{maxCount, moves, waits, refuses, counts, 
 use Rattle.lines.specs.Symmetric.{symmetric12, symmetric13, symmetric14, symmetricLine}
 use Rattle.lines.specs.Increment.{increment12, increment13, increment14, increment15, increment16, incrementLine}
 use Rattle.lines.specs.Ring.{nz, ring12, ring13, ring14, ring15, ringLine}
-use Rattle.lines.specs.Tree.{treeList, tree13, tree14, tree15, tree16, tree18, treeGather, treeMeet, treeRelease, treeLine}
+use Rattle.lines.specs.Tree.{tree11, tree12, tree13, tree14, tree15, tree16, tree17, tree18, treeGather, treeMeet, treeRelease, treeLine}
 use Rattle.lines.specs.Rule.{effectFrom}
 
 -- ---- by cases
@@ -61,9 +61,9 @@ module _ (P : Effect → Type 0) (line : ℕ) (t : Task) where
   unfolding ringLine
   by-ring rest l11 n p l12 l13 l14 l15 = at-line 11 l11 (at-line 12 l12 (at-line 13 l13 (at-line 14 l14 (at-line 15 l15 rest)))) (λ h. h)
 
-  pub by-tree : ((11 ≤ line → 18 < line) → P (waits t)) → (line ≡ 11 → P (work t)) → (table : List ℕ) (p flag : ℕ)
-      → (line ≡ 12 → P (treeList table p 13 t)) → (line ≡ 13 → P (tree13 t)) → (line ≡ 14 → P (tree14 flag t))
-      → (line ≡ 15 → P (tree15 p t)) → (line ≡ 16 → P (tree16 p t)) → (line ≡ 17 → P (treeList table p 18 t)) → (line ≡ 18 → P (tree18 t))
+  pub by-tree : ((11 ≤ line → 18 < line) → P (waits t)) → (line ≡ 11 → P (tree11 t)) → (table : List ℕ) (p flag : ℕ)
+      → (line ≡ 12 → P (tree12 table p t)) → (line ≡ 13 → P (tree13 t)) → (line ≡ 14 → P (tree14 flag t))
+      → (line ≡ 15 → P (tree15 p t)) → (line ≡ 16 → P (tree16 p t)) → (line ≡ 17 → P (tree17 table p t)) → (line ≡ 18 → P (tree18 t))
       → P (treeLine line table p flag t)
   unfolding treeGather treeMeet treeRelease
   by-tree rest l11 table p flag l12 l13 l14 l15 l16 l17 l18 =

@@ -1,4 +1,5 @@
--- The tree barrier, line by line, in the order of the note's text (001, section 2.4.1).
+-- The tree barrier, line by line, in the order of the note's text (001, section 2.4.1). At each line stands the note's own, then 01's. In the
+-- note aa is the flag, lis the list, kk the looked-at task and cnt the count; rear, which only its proof needs, is not kept.
 use mathlib.Core.Bool.{_||_}
 use mathlib.Core.List.{List}
 use Prim.Native.Nat.{ℕ}
@@ -12,27 +13,43 @@ use Rattle.lines.specs.declared.Write.the-variants.{Nothing, Flag}
 use Rattle.lines.specs.Setters.{withLine, withList, withFlag}
 use Rattle.lines.specs.Common.{moves, waits, awaits, raised, counts, work, choose, takeOff}
 
--- 12 and 17: "list := own children; to" the next line
-abbrev pub treeList : List ℕ → ℕ → ℕ → Task → Effect
-treeList table p to t = moves (withLine (withList t (childrenOf table p)) to) Nothing
+-- 11  NCS ;
+-- 01: "Line 11, the task's own work, is one move and leads to 12."
+abbrev pub tree11 : Task → Effect
+tree11 t = work t
 
--- 13: "if the list is empty, to 15; else looked-at := the least on it, to 14."
+-- 12  lis_p := children(p) ;
+-- 01: "list := own children; to 13."
+abbrev pub tree12 : List ℕ → ℕ → Task → Effect
+tree12 table p t = moves (withLine (withList t (childrenOf table p)) 13) Nothing
+
+-- 13  while exists kk_p in lis_p do
+-- 01: "if the list is empty, to 15; else looked-at := the least on it, to 14."
 abbrev pub tree13 : Task → Effect
 tree13 t = choose 15 (leastOf (t .list)) t
 
--- 14: "await flag of looked-at = 1; take it off; to 13."
+-- 14    await (aa[kk_p]) ; remove kk_p from lis_p endwhile ;
+-- 01: "await flag of looked-at = 1; take it off; to 13."
 abbrev pub tree14 : ℕ → Task → Effect
 tree14 flag t = awaits (eqb flag 1) t (takeOff t)
 
--- 15: "flag := 1 unless the task is 0; count rises by 1; to 16."
+-- 15  if p != 0 then aa[p] := true else rear := allthreads endif ; cnt_p ++ ;
+-- 01: "flag := 1 unless the task is 0; count rises by 1; to 16."
 abbrev pub tree15 : ℕ → Task → Effect
 tree15 p t = counts t (moves (withLine (raised (withFlag t (pick (eqb p 0) (t .flag) 1))) 16) Nothing)
 
--- 16: "await task is 0 or own flag = 0; to 17."
+-- 16  await (p = 0 or not aa[p]) ;
+-- 01: "await task is 0 or own flag = 0; to 17."
 abbrev pub tree16 : ℕ → Task → Effect
 tree16 p t = awaits (eqb p 0 || eqb (t .flag) 0) t (moves (withLine t 17) Nothing)
 
--- 18: "if the list is empty, to 11; else clear the flag of the least task on it and take that task off, staying at 18."
+-- 17  lis_p := children(p) ;
+-- 01: "list := own children; to 18."
+abbrev pub tree17 : List ℕ → ℕ → Task → Effect
+tree17 table p t = moves (withLine (withList t (childrenOf table p)) 18) Nothing
+
+-- 18  while exists k in lis_p do aa[k] := false ; remove k from lis_p endwhile ; remove p from rear
+-- 01: "if the list is empty, to 11; else clear the flag of the least task on it and take that task off, staying at 18."
 abbrev pub tree18 : Task → Effect
 tree18 t =
     pick (eqb (t .list) 0)
@@ -43,8 +60,8 @@ tree18 t =
 -- 11 to 13: work, and the children's loop
 unfoldable pub treeGather : ℕ → List ℕ → ℕ → Task → Effect
 treeGather line table p t =
-    pick (eqb line 11) (work t)
-    (pick (eqb line 12) (treeList table p 13 t)
+    pick (eqb line 11) (tree11 t)
+    (pick (eqb line 12) (tree12 table p t)
     (pick (eqb line 13) (tree13 t)
     (waits t)))
 
@@ -59,7 +76,7 @@ treeMeet line p flag t =
 -- 17 and 18: the children are let go
 unfoldable pub treeRelease : ℕ → List ℕ → ℕ → Task → Effect
 treeRelease line table p t =
-    pick (eqb line 17) (treeList table p 18 t)
+    pick (eqb line 17) (tree17 table p t)
     (pick (eqb line 18) (tree18 t)
     (waits t))
 

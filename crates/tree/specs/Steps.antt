@@ -25,7 +25,7 @@ from-mid m to top h = absurd (omega arith)
 from-mid m to low h = absurd (omega arith)
 
 -- a task at 14 looks at a task of its list
-abbrev Looks : Task → Type 0
+abbrev pub Looks : Task → Type 0
 Looks t = t .line ≡ 14 → bit (t .list) (t .looked) ≡ 1
 
 module _ {n : ℕ} {table : List ℕ} (tree : IsTree table n) (few : n ≤ 64) {c : ℕ} {t : ℕ → Task} (g : Standing n table c t) (p : ℕ) (known : p < n) where

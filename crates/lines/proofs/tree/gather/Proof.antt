@@ -7,11 +7,11 @@ use Rattle.lines.proofs.tree.gather.Tie as tie
 
 returns : tie.Need-returns
 unfolding treeGather
-returns c = rw (c .before .match .keys1) (c .work .ensures)
+returns c = rw (c .before .match .keys1) (c .line11 .ensures)
 
 returns-2 : tie.Need-returns-2
 unfolding treeGather
-returns-2 c = rw (c .before .match .keys2) (c .list-children .ensures)
+returns-2 c = rw (c .before .match .keys2) (c .line12 .ensures)
 
 returns-3 : tie.Need-returns-3
 unfolding treeGather

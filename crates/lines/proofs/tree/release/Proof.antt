@@ -7,7 +7,7 @@ use Rattle.lines.proofs.tree.release.Tie as tie
 
 returns : tie.Need-returns
 unfolding treeRelease
-returns c = rw (c .before .match .keys1) (c .list-children .ensures)
+returns c = rw (c .before .match .keys1) (c .line17 .ensures)
 
 returns-2 : tie.Need-returns-2
 unfolding treeRelease

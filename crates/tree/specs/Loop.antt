@@ -1,0 +1,48 @@
+-- The claim of 02's P5, in its words: "from leaving 11 until it is back there, whatever the others do, a task with k children moves once at each of
+-- 12, 15, 16 and 17, k times at 14, and k + 1 times at each of 13 and 18." Over the turn that the contracts cite; the laws stand in `LoopLaws`.
+use mathlib.Core.Path.{_≡_}
+use mathlib.Core.Bool.{_&&_}
+use mathlib.Core.List.{List, [], _∷_}
+use mathlib.Core.Logic.{_≢_}
+use Prim.Native.Nat.{ℕ, _+_}
+use lib.Dec.{eqb}
+use Rattle.bitset.specs.Choice.{pick}
+use Rattle.machine.specs.declared.State.{State}
+use Rattle.machine.specs.Setters.{taskAt}
+use Rattle.machine.specs.Range.{tableOf, Valid}
+use Rattle.machine.specs.Turn.{turnOf, isMoved}
+use Rattle.tree.specs.Round.{children}
+
+-- "leaving 11": the task p has just left 11 where it is at 12, for 11 leads there and nothing else does (`leaves-11`, `only-11` in `LoopLaws`)
+abbrev pub JustLeft : ℕ → State → Type 0
+JustLeft p s = taskAt s p .line ≡ 12
+
+-- "until it is back there": p is at 11 after the turns, for the first time: before each of them it is not.
+-- "whatever the others do": the turns are of any tasks, in any order, and a refused one leaves the state.
+abbrev pub FirstBack : ℕ → State → List ℕ → Type 0
+FirstBack p s [] = taskAt s p .line ≡ 11
+FirstBack p s (q ∷ ts) = (taskAt s p .line ≢ 11) × FirstBack p (turnOf s q .state) ts
+
+-- 1 if a turn of q moves the task p at this line, else 0
+abbrev pub moveAt : ℕ → ℕ → State → ℕ → ℕ
+moveAt p line s q = pick (isMoved (turnOf s q .outcome) && (eqb q p && eqb (taskAt s p .line) line)) 1 0
+
+-- how many times p moves at this line in the turns
+abbrev pub timesAt : ℕ → ℕ → State → List ℕ → ℕ
+timesAt p line s [] = 0
+timesAt p line s (q ∷ ts) = moveAt p line s q + timesAt p line (turnOf s q .state) ts
+
+-- the numbers of the claim, in the order of the text
+pub record OnceRound (k : ℕ) (times : ℕ → ℕ) : Type 0 where
+  pub at-12 : times 12 ≡ 1
+  pub at-13 : times 13 ≡ k + 1
+  pub at-14 : times 14 ≡ k
+  pub at-15 : times 15 ≡ 1
+  pub at-16 : times 16 ≡ 1
+  pub at-17 : times 17 ≡ 1
+  pub at-18 : times 18 ≡ k + 1
+
+-- the claim, for every tree state in range
+abbrev pub Claim : Type 0
+Claim = (s : State) → Valid s → s .kind ≡ 3 → (p : ℕ) → JustLeft p s → (ts : List ℕ) → FirstBack p s ts
+    → OnceRound (children (tableOf s) p) (λ line. timesAt p line s ts)

@@ -1,0 +1,189 @@
+-- The claim of 02's P5 holds. Of the moves that a task has yet to make at each line until it is back at 11, its own move is one less, at its line,
+-- and no other turn changes them.
+use mathlib.Core.Path.{_≡_, refl, sym, ap, _∙_, subst}
+use mathlib.Core.List.{List, [], _∷_}
+use mathlib.Core.Logic.{_≢_}
+use Prim.Native.Nat.{ℕ, _+_}
+use native.Mathlib.Decide.{ℕ-discrete}
+use native.Mathlib.Omega.{arith}
+use lib.Dec.{eqb, leb}
+use borrow.Author.Tests.{eq-eqb, ne-eqb}
+use Rattle.bitset.specs.Choice.{pick}
+use Rattle.bitset.specs.Set.{sizeOf}
+use Rattle.bitset.specs.SetLaws.{size-zero, without-size}
+use Rattle.lines.specs.declared.Task.{Task}
+use Rattle.lines.specs.Setters.{withToggle, withFlag}
+use Rattle.machine.specs.declared.State.{State}
+use Rattle.machine.specs.declared.Move.the-variants.{Moved, Waited}
+use Rattle.machine.specs.declared.Outcome.{Outcome}
+use Rattle.machine.specs.declared.Outcome.the-variants.{Made, Refused}
+use Rattle.machine.specs.Setters.{taskAt}
+use Rattle.machine.specs.Range.{tableOf, Valid}
+use Rattle.machine.specs.Turn.{effectOf, turnOf}
+use Rattle.machine.specs.TurnLaws.{refused-still, waited-tallied, moved-tallied, turn-constants}
+use Rattle.machine.specs.KeepLaws.{turn-valid}
+use Rattle.barrier.specs.Barrier.{Able}
+use Rattle.barrier.specs.Moves.{moved-able, own-after, other-after}
+use Rattle.barrier.specs.Place.{same-table}
+use Rattle.tree.specs.Lines.{by-line}
+use Rattle.tree.specs.Steps.{Looks}
+use Rattle.tree.specs.Round.{children}
+use Rattle.tree.specs.Loop.{JustLeft, FirstBack, moveAt, timesAt, Claim}
+
+-- ---- the moves yet to make
+
+-- the moves that a task with k children, at this line with j tasks on its list, has yet to make at the line l until it is back at 11
+abbrev yet : ℕ → ℕ → ℕ → ℕ → ℕ
+yet k line j l =
+    pick (eqb line 11) 0
+    (pick (eqb l 13) (pick (eqb line 12) (k + 1) (pick (eqb line 13) (j + 1) (pick (eqb line 14) j 0)))
+    (pick (eqb l 14) (pick (eqb line 12) k (pick (leb line 14) j 0))
+    (pick (eqb l 18) (pick (eqb line 18) (j + 1) (k + 1))
+    -- 12, 15, 16 and 17 are met once
+    (pick (leb line l) 1 0))))
+
+abbrev yetOf : ℕ → Task → ℕ → ℕ
+yetOf k t l = yet k (t .line) (sizeOf (t .list)) l
+
+-- what holds of each line of the loop
+abbrev Each : (ℕ → Type 0) → Type 0
+Each P = P 12 × P 13 × P 14 × P 15 × P 16 × P 17 × P 18
+
+each : {P Q : ℕ → Type 0} → ((l : ℕ) → P l → Q l) → Each P → Each Q
+each f a = (f 12 (a .0), f 13 (a .1), f 14 (a .2), f 15 (a .3), f 16 (a .4), f 17 (a .5), f 18 (a .6))
+
+both : {P Q R : ℕ → Type 0} → ((l : ℕ) → P l → Q l → R l) → Each P → Each Q → Each R
+both f a b = (f 12 (a .0) (b .0), f 13 (a .1) (b .1), f 14 (a .2) (b .2), f 15 (a .3) (b .3), f 16 (a .4) (b .4), f 17 (a .5) (b .5), f 18 (a .6) (b .6))
+
+-- a task goes from t to u: what t has yet to make are the moves made and what u has yet to make
+pub record Goes (k : ℕ) (t u : Task) (made : ℕ → ℕ) : Type 0 where
+  pub less : Each (λ l. yetOf k t l ≡ made l + yetOf k u l)
+  pub looks : Looks u
+
+-- one move of the task p, at its line
+module _ (s : State) (p : ℕ) (ok : Valid s) (kind : s .kind ≡ 3) (able : Able s p) where
+  abbrev Moves : Task → Type 0
+  Moves u = Goes (children (tableOf s) p) (taskAt s p) u (λ l. pick (eqb (taskAt s p .line) l) 1 0)
+
+  one-move : taskAt s p .line ≢ 11 → Looks (taskAt s p) → Moves (effectOf s p .task)
+  one-move away looks =
+      by-line (λ e. Moves (e .task)) s p ok kind able
+      (λ l. absurd (away l))
+      (λ l. record { less = rw l (omega arith); looks = omega arith })
+      (λ l z. record { less = rw (l, z, size-zero) (omega arith); looks = omega arith })
+      (λ k l on. record { less = rw l (omega arith); looks = λ _. on })
+      (λ l up. record { less = rw l (omega (arith, without-size (taskAt s p .list) (taskAt s p .looked) (looks l))); looks = omega arith })
+      (λ l z. record { less = rw l (omega arith); looks = omega arith })
+      (λ l ne. record { less = rw l (omega arith); looks = omega arith })
+      (λ l w. record { less = rw l (omega arith); looks = omega arith })
+      (λ l. record { less = rw l (omega arith); looks = omega arith })
+      (λ l z. record { less = rw (l, z, size-zero) (omega arith); looks = omega arith })
+      (λ k l on. record { less = rw l (omega (arith, without-size (taskAt s p .list) k on)); looks = omega arith })
+
+-- ---- a turn
+
+-- a task but for its toggle and flag, which other tasks write
+abbrev core : Task → Task
+core t = withToggle (withFlag t 0) 0
+
+-- a turn of q is a move of the task p, or it is none and leaves it, but for toggle and flag
+pub data Turns (s : State) (p q : ℕ) : Type 0 where
+  moves : q ≡ p → Able s p → ((l : ℕ) → moveAt p l s q ≡ pick (eqb (taskAt s p .line) l) 1 0)
+      → core (taskAt (turnOf s q .state) p) ≡ core (effectOf s p .task) → Turns s p q
+  stays : ((l : ℕ) → moveAt p l s q ≡ 0) → core (taskAt (turnOf s q .state) p) ≡ core (taskAt s p) → Turns s p q
+
+turns : (s : State) (p q : ℕ) → Valid s → Turns s p q
+turns s p q ok = go (turnOf s q .outcome) refl (ℕ-discrete q p)
+  where
+    -- the task r in the state after the turn, which is s′
+    after : {s′ : State} (r : ℕ) → turnOf s q .state ≡ s′ → core (taskAt (turnOf s q .state) r) ≡ core (taskAt s′ r)
+    after r e = ap (λ (x : State). core (taskAt x r)) e
+
+    go : (o : Outcome) → turnOf s q .outcome ≡ o → Dec (q ≡ p) → Turns s p q
+    go (Made (Moved c)) e (yes eq) =
+        let able = moved-able s q c e in
+        subst (λ (x : ℕ). Turns s x q) eq
+        (moves refl able (λ l. rw (e, eq-eqb q q refl)) (after q (moved-tallied s q c e) ∙ own-after core (λ t x. (refl, refl)) s q ok able))
+    go (Made (Moved c)) e (no ne) =
+        stays (λ l. rw (e, ne-eqb q p ne))
+        (after p (moved-tallied s q c e) ∙ other-after core (λ t x. (refl, refl)) s q ok (moved-able s q c e) p (λ eq. ne (sym eq)))
+    go (Made Waited) e d = stays (λ l. rw e) (after p (waited-tallied s q e))
+    go (Refused k) e d = stays (λ l. rw e) (after p (refused-still s q k e))
+
+module _ (s : State) (p : ℕ) (ok : Valid s) (kind : s .kind ≡ 3) where
+  -- 11 leads to 12: a task that its turn takes from 11 has just left it
+  pub leaves-11 : taskAt s p .line ≡ 11 → taskAt (turnOf s p .state) p .line ≢ 11 → JustLeft p (turnOf s p .state)
+  leaves-11 at away = go (turns s p p ok)
+    where
+      go : Turns s p p → JustLeft p (turnOf s p .state)
+      go (moves _ able _ e) =
+          ap (λ (t : Task). t .line) e
+          ∙ by-line (λ x. x .task .line ≡ 12) s p ok kind able
+          (λ l. refl) (λ l. absurd (omega arith)) (λ l z. absurd (omega arith)) (λ k l on. absurd (omega arith)) (λ l up. absurd (omega arith))
+          (λ l z. absurd (omega arith)) (λ l ne. absurd (omega arith)) (λ l w. absurd (omega arith)) (λ l. absurd (omega arith)) (λ l z. absurd (omega arith))
+          (λ k l on. absurd (omega arith))
+      go (stays _ e) = absurd (away (ap (λ (t : Task). t .line) e ∙ at))
+
+  -- and nothing else does: whatever turn brings a task to 12, it is its own, from 11
+  pub only-11 : (q : ℕ) → taskAt s p .line ≢ 12 → JustLeft p (turnOf s q .state) → (q ≡ p) × (taskAt s p .line ≡ 11)
+  only-11 q away left = go (turns s p q ok)
+    where
+      go : Turns s p q → (q ≡ p) × (taskAt s p .line ≡ 11)
+      go (moves eq able _ e) = (
+        eq,
+        by-line (λ x. x .task .line ≡ 12 → taskAt s p .line ≡ 11) s p ok kind able
+            (λ l _. l) (λ l. omega arith) (λ l z. omega arith) (λ k l on. omega arith) (λ l up. omega arith) (λ l z. omega arith) (λ l ne. omega arith)
+            (λ l w. omega arith) (λ l. omega arith) (λ l z. omega arith) (λ k l on. omega arith) (sym (ap (λ (t : Task). t .line) e) ∙ left),
+      )
+      go (stays _ e) = absurd (away (sym (ap (λ (t : Task). t .line) e) ∙ left))
+
+-- ---- all turns
+
+-- the task p of a tree, in a state in range
+pub record On (p : ℕ) (s : State) : Type 0 where
+  pub valid : Valid s
+  pub kind : s .kind ≡ 3
+  pub looks : Looks (taskAt s p)
+
+-- the moves yet to make are told by a task but for its toggle and flag
+as-well : {k : ℕ} {t u u′ : Task} {made made′ : ℕ → ℕ} → core u′ ≡ core u → ((l : ℕ) → made′ l ≡ made l) → Goes k t u made → Goes k t u′ made′
+as-well {k} {t} {u} {u′} {made} {made′} e m g = record { less = each same (g .less); looks = subst Looks (sym e) (g .looks) }
+  where
+    same : (l : ℕ) → yetOf k t l ≡ made l + yetOf k u l → yetOf k t l ≡ made′ l + yetOf k u′ l
+    same l h = h ∙ ap (λ (x : ℕ). x + yetOf k u l) (sym (m l)) ∙ ap (λ (x : Task). made′ l + yetOf k x l) (sym e)
+
+-- a turn of any task q
+one-turn : (s : State) (p q : ℕ) → On p s → taskAt s p .line ≢ 11
+    → Goes (children (tableOf s) p) (taskAt s p) (taskAt (turnOf s q .state) p) (λ l. moveAt p l s q)
+one-turn s p q on away = go (turns s p q (on .valid))
+  where
+    go : Turns s p q → Goes (children (tableOf s) p) (taskAt s p) (taskAt (turnOf s q .state) p) (λ l. moveAt p l s q)
+    go (moves _ able m e) = as-well e m (one-move s p (on .valid) (on .kind) able away (on .looks))
+    go (stays m e) = as-well {u = taskAt s p} {made = λ l. 0} e m (record { less = omega arith; looks = on .looks })
+
+-- the moves that p makes until it is back are those that it had to make
+all-turns : (p : ℕ) (ts : List ℕ) (s : State) → On p s → FirstBack p s ts → Each (λ l. timesAt p l s ts ≡ yetOf (children (tableOf s) p) (taskAt s p) l)
+all-turns p [] s on back = rw back (refl, refl, refl, refl, refl, refl, refl)
+all-turns p (q ∷ ts) s on back =
+    both together (first .less)
+    (subst (λ (table : List ℕ). Each (λ l. timesAt p l s′ ts ≡ yetOf (children table p) (taskAt s′ p) l)) (same-table s q) (all-turns p ts s′ next (back .1)))
+  where
+    s′ : State
+    s′ = turnOf s q .state
+
+    first : Goes (children (tableOf s) p) (taskAt s p) (taskAt s′ p) (λ l. moveAt p l s q)
+    first = one-turn s p q on (back .0)
+
+    next : On p s′
+    next = record { valid = turn-valid s q (on .valid); kind = turn-constants s q .kind ∙ on .kind; looks = first .looks }
+
+    together : (l : ℕ) → yetOf (children (tableOf s) p) (taskAt s p) l ≡ moveAt p l s q + yetOf (children (tableOf s) p) (taskAt s′ p) l
+        → timesAt p l s′ ts ≡ yetOf (children (tableOf s) p) (taskAt s′ p) l → timesAt p l s (q ∷ ts) ≡ yetOf (children (tableOf s) p) (taskAt s p) l
+    together l less rest = ap (λ (x : ℕ). moveAt p l s q + x) rest ∙ sym less
+
+-- ---- the claim
+
+pub loop : Claim
+loop s ok kind p left ts back =
+    let all = all-turns p ts s (record { valid = ok; kind = kind; looks = omega arith }) back in
+    omega (arith, rw left at all)
