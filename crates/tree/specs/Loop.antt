@@ -7,11 +7,12 @@ use mathlib.Core.Logic.{_≢_}
 use Prim.Native.Nat.{ℕ, _+_}
 use lib.Dec.{eqb}
 use Rattle.bitset.specs.Choice.{pick}
+use Rattle.bitset.specs.Set.{sizeOf}
+use Rattle.parents.specs.Parents.{childrenOf}
 use Rattle.machine.specs.declared.State.{State}
 use Rattle.machine.specs.Setters.{taskAt}
 use Rattle.machine.specs.Range.{tableOf, Valid}
 use Rattle.machine.specs.Turn.{turnOf, isMoved}
-use Rattle.tree.specs.Round.{children}
 
 -- "leaving 11": the task p has just left 11 where it is at 12, for 11 leads there and nothing else does (`leaves-11`, `only-11` in `LoopLaws`)
 abbrev pub JustLeft : ℕ → State → Type 0
@@ -33,7 +34,7 @@ timesAt p line s [] = 0
 timesAt p line s (q ∷ ts) = moveAt p line s q + timesAt p line (turnOf s q .state) ts
 
 -- the numbers of the claim, in the order of the text
-pub record OnceRound (k : ℕ) (times : ℕ → ℕ) : Type 0 where
+pub record LoopMoves (k : ℕ) (times : ℕ → ℕ) : Type 0 where
   pub at-12 : times 12 ≡ 1
   pub at-13 : times 13 ≡ k + 1
   pub at-14 : times 14 ≡ k
@@ -42,7 +43,7 @@ pub record OnceRound (k : ℕ) (times : ℕ → ℕ) : Type 0 where
   pub at-17 : times 17 ≡ 1
   pub at-18 : times 18 ≡ k + 1
 
--- the claim, for every tree state in range
+-- the claim, for every tree state in range; k is the size of the set of p's children
 abbrev pub Claim : Type 0
 Claim = (s : State) → Valid s → s .kind ≡ 3 → (p : ℕ) → JustLeft p s → (ts : List ℕ) → FirstBack p s ts
-    → OnceRound (children (tableOf s) p) (λ line. timesAt p line s ts)
+    → LoopMoves (sizeOf (childrenOf (tableOf s) p)) (λ line. timesAt p line s ts)

@@ -56,7 +56,7 @@ both : {P Q R : ℕ → Type 0} → ((l : ℕ) → P l → Q l → R l) → Each
 both f a b = (f 12 (a .0) (b .0), f 13 (a .1) (b .1), f 14 (a .2) (b .2), f 15 (a .3) (b .3), f 16 (a .4) (b .4), f 17 (a .5) (b .5), f 18 (a .6) (b .6))
 
 -- a task goes from t to u: what t has yet to make are the moves made and what u has yet to make
-pub record Goes (k : ℕ) (t u : Task) (made : ℕ → ℕ) : Type 0 where
+record Goes (k : ℕ) (t u : Task) (made : ℕ → ℕ) : Type 0 where
   pub less : Each (λ l. yetOf k t l ≡ made l + yetOf k u l)
   pub looks : Looks u
 
@@ -87,7 +87,7 @@ abbrev core : Task → Task
 core t = withToggle (withFlag t 0) 0
 
 -- a turn of q is a move of the task p, or it is none and leaves it, but for toggle and flag
-pub data Turns (s : State) (p q : ℕ) : Type 0 where
+data Turns (s : State) (p q : ℕ) : Type 0 where
   moves : q ≡ p → Able s p → ((l : ℕ) → moveAt p l s q ≡ pick (eqb (taskAt s p .line) l) 1 0)
       → core (taskAt (turnOf s q .state) p) ≡ core (effectOf s p .task) → Turns s p q
   stays : ((l : ℕ) → moveAt p l s q ≡ 0) → core (taskAt (turnOf s q .state) p) ≡ core (taskAt s p) → Turns s p q
@@ -140,7 +140,7 @@ module _ (s : State) (p : ℕ) (ok : Valid s) (kind : s .kind ≡ 3) where
 -- ---- all turns
 
 -- the task p of a tree, in a state in range
-pub record On (p : ℕ) (s : State) : Type 0 where
+record On (p : ℕ) (s : State) : Type 0 where
   pub valid : Valid s
   pub kind : s .kind ≡ 3
   pub looks : Looks (taskAt s p)
