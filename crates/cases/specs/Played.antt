@@ -7,8 +7,8 @@ use Rattle.machine.specs.Fresh.{inputsOf, zeroState}
 use Rattle.playback.specs.declared.Verdict.the-variants.{Agrees, Differs, Refused}
 use Rattle.playback.specs.declared.Played.{Played}
 use Rattle.playback.specs.Playback.{triplesOf, playFrom, playReason, playOf}
-use Rattle.guarantee.specs.Cases.{computing, setup, fresh, after}
-use Rattle.guarantee.specs.Rounds.{sheet-turns}
+use Rattle.cases.specs.Cases.{computing, setup, fresh, after}
+use Rattle.cases.specs.Rounds.{sheet-turns}
 
 -- the sheet's example (01) as the watch writes it: task 0 arrives first and waits at 16, task 1 arrives last, turns the sense, and 0 goes on
 abbrev pub sheet-trace : List ℕ

@@ -7,7 +7,7 @@ use Rattle.machine.specs.declared.State.{State}
 use Rattle.machine.specs.Setters.{taskAt}
 use Rattle.machine.specs.Fresh.{inputsOf, freshOf}
 use Rattle.machine.specs.Turn.{turnOf}
-use Rattle.guarantee.specs.Cases.{computing, setup, after}
+use Rattle.cases.specs.Cases.{computing, setup, after}
 
 -- a symmetric state with R 3 and a start table, and the reason of a call with one
 abbrev pub fresh : ℕ → List ℕ → State

@@ -10,7 +10,7 @@ use Rattle.runner.specs.declared.Ending.the-variants.{Done, Stopped, Refused}
 use Rattle.runner.specs.declared.Ran.{Ran}
 use Rattle.runner.specs.Trace.{traceOf}
 use Rattle.runner.specs.Run.{tallyIn, roundsIn, runReason, runOf}
-use Rattle.guarantee.specs.Cases.{computing, fresh, answers, moved, waited}
+use Rattle.cases.specs.Cases.{computing, fresh, answers, moved, waited}
 
 -- the whole schedule, run with a log that has room for it
 abbrev pub ran : State → List ℕ → Ran

@@ -13,8 +13,8 @@ use Rattle.machine.specs.Ready.{readyFrom, readyOf}
 use Rattle.runner.specs.declared.Ending.the-variants.{Stopped, Refused}
 use Rattle.runner.specs.Trace.{traceOf}
 use Rattle.runner.specs.Run.{tallyIn, roundsIn, logOf, runReason, runOf, logAfter}
-use Rattle.guarantee.specs.Cases.{computing, fresh, after, answers, moved, waited}
-use Rattle.guarantee.specs.Rounds.{ran, edited, sheet-turns}
+use Rattle.cases.specs.Cases.{computing, fresh, after, answers, moved, waited}
+use Rattle.cases.specs.Rounds.{ran, edited, sheet-turns}
 
 -- the tallies of the first two tasks, moves and waits
 abbrev pub firstTwo : State → List (List ℕ)
