@@ -111,30 +111,27 @@ turns s p q ok = go (turnOf s q .outcome) refl (ℕ-discrete q p)
     go (Refused k) e d = stays (λ l. rw e) (after p (refused-still s q k e))
 
 module _ (s : State) (p : ℕ) (ok : Valid s) (kind : s .kind ≡ 3) where
-  -- 11 leads to 12: a task that its turn takes from 11 has just left it
+  -- a move leads to 12 from 11, and from no other line
+  to-12 : Able s p → (taskAt s p .line ≡ 11 → effectOf s p .task .line ≡ 12) × (effectOf s p .task .line ≡ 12 → taskAt s p .line ≡ 11)
+  to-12 able =
+      by-line (λ e. (taskAt s p .line ≡ 11 → e .task .line ≡ 12) × (e .task .line ≡ 12 → taskAt s p .line ≡ 11)) s p ok kind able
+      (λ l. (λ _. refl, λ _. l)) (λ l. omega arith) (λ l z. omega arith) (λ k l on. omega arith) (λ l up. omega arith) (λ l z. omega arith) (λ l ne. omega arith)
+      (λ l w. omega arith) (λ l. omega arith) (λ l z. omega arith) (λ k l on. omega arith)
+
+  -- so a task that its turn takes from 11 has just left it
   pub leaves-11 : taskAt s p .line ≡ 11 → taskAt (turnOf s p .state) p .line ≢ 11 → JustLeft p (turnOf s p .state)
   leaves-11 at away = go (turns s p p ok)
     where
       go : Turns s p p → JustLeft p (turnOf s p .state)
-      go (moves _ able _ e) =
-          ap (λ (t : Task). t .line) e
-          ∙ by-line (λ x. x .task .line ≡ 12) s p ok kind able
-          (λ l. refl) (λ l. absurd (omega arith)) (λ l z. absurd (omega arith)) (λ k l on. absurd (omega arith)) (λ l up. absurd (omega arith))
-          (λ l z. absurd (omega arith)) (λ l ne. absurd (omega arith)) (λ l w. absurd (omega arith)) (λ l. absurd (omega arith)) (λ l z. absurd (omega arith))
-          (λ k l on. absurd (omega arith))
+      go (moves _ able _ e) = ap (λ (t : Task). t .line) e ∙ to-12 able .0 at
       go (stays _ e) = absurd (away (ap (λ (t : Task). t .line) e ∙ at))
 
-  -- and nothing else does: whatever turn brings a task to 12, it is its own, from 11
+  -- and whatever turn brings a task to 12, it is its own, from 11
   pub only-11 : (q : ℕ) → taskAt s p .line ≢ 12 → JustLeft p (turnOf s q .state) → (q ≡ p) × (taskAt s p .line ≡ 11)
   only-11 q away left = go (turns s p q ok)
     where
       go : Turns s p q → (q ≡ p) × (taskAt s p .line ≡ 11)
-      go (moves eq able _ e) = (
-        eq,
-        by-line (λ x. x .task .line ≡ 12 → taskAt s p .line ≡ 11) s p ok kind able
-            (λ l _. l) (λ l. omega arith) (λ l z. omega arith) (λ k l on. omega arith) (λ l up. omega arith) (λ l z. omega arith) (λ l ne. omega arith)
-            (λ l w. omega arith) (λ l. omega arith) (λ l z. omega arith) (λ k l on. omega arith) (sym (ap (λ (t : Task). t .line) e) ∙ left),
-      )
+      go (moves eq able _ e) = (eq, to-12 able .1 (sym (ap (λ (t : Task). t .line) e) ∙ left))
       go (stays _ e) = absurd (away (sym (ap (λ (t : Task). t .line) e) ∙ left))
 
 -- ---- all turns
@@ -146,39 +143,42 @@ record On (p : ℕ) (s : State) : Type 0 where
   pub looks : Looks (taskAt s p)
 
 -- the moves yet to make are told by a task but for its toggle and flag
-as-well : {k : ℕ} {t u u′ : Task} {made made′ : ℕ → ℕ} → core u′ ≡ core u → ((l : ℕ) → made′ l ≡ made l) → Goes k t u made → Goes k t u′ made′
-as-well {k} {t} {u} {u′} {made} {made′} e m g = record { less = each same (g .less); looks = subst Looks (sym e) (g .looks) }
+same-core : {k : ℕ} {t u u′ : Task} {made made′ : ℕ → ℕ} → core u′ ≡ core u → ((l : ℕ) → made′ l ≡ made l) → Goes k t u made → Goes k t u′ made′
+same-core {k} {t} {u} {u′} {made} {made′} e m g = record { less = each same (g .less); looks = subst Looks (sym e) (g .looks) }
   where
     same : (l : ℕ) → yetOf k t l ≡ made l + yetOf k u l → yetOf k t l ≡ made′ l + yetOf k u′ l
     same l h = h ∙ ap (λ (x : ℕ). x + yetOf k u l) (sym (m l)) ∙ ap (λ (x : Task). made′ l + yetOf k x l) (sym e)
 
--- a turn of any task q
-one-turn : (s : State) (p q : ℕ) → On p s → taskAt s p .line ≢ 11
-    → Goes (children (tableOf s) p) (taskAt s p) (taskAt (turnOf s q .state) p) (λ l. moveAt p l s q)
-one-turn s p q on away = go (turns s p q (on .valid))
-  where
-    go : Turns s p q → Goes (children (tableOf s) p) (taskAt s p) (taskAt (turnOf s q .state) p) (λ l. moveAt p l s q)
-    go (moves _ able m e) = as-well e m (one-move s p (on .valid) (on .kind) able away (on .looks))
-    go (stays m e) = as-well {u = taskAt s p} {made = λ l. 0} e m (record { less = omega arith; looks = on .looks })
+-- what the task p has yet to make in the state s
+abbrev yetIn : ℕ → State → ℕ → ℕ
+yetIn p s l = yetOf (children (tableOf s) p) (taskAt s p) l
 
--- the moves that p makes until it is back are those that it had to make
-all-turns : (p : ℕ) (ts : List ℕ) (s : State) → On p s → FirstBack p s ts → Each (λ l. timesAt p l s ts ≡ yetOf (children (tableOf s) p) (taskAt s p) l)
-all-turns p [] s on back = rw back (refl, refl, refl, refl, refl, refl, refl)
-all-turns p (q ∷ ts) s on back =
-    both together (first .less)
-    (subst (λ (table : List ℕ). Each (λ l. timesAt p l s′ ts ≡ yetOf (children table p) (taskAt s′ p) l)) (same-table s q) (all-turns p ts s′ next (back .1)))
+-- a turn of any task q
+one-turn : (s : State) (p q : ℕ) → On p s → taskAt s p .line ≢ 11 → Each (λ l. yetIn p s l ≡ moveAt p l s q + yetIn p (turnOf s q .state) l) × On p (turnOf s q .state)
+one-turn s p q on away = (
+  subst (λ (table : List ℕ). Each (λ l. yetIn p s l ≡ moveAt p l s q + yetOf (children table p) (taskAt s′ p) l)) (sym (same-table s q)) (goes .less),
+  record { valid = turn-valid s q (on .valid); kind = turn-constants s q .kind ∙ on .kind; looks = goes .looks },
+)
   where
     s′ : State
     s′ = turnOf s q .state
 
-    first : Goes (children (tableOf s) p) (taskAt s p) (taskAt s′ p) (λ l. moveAt p l s q)
-    first = one-turn s p q on (back .0)
+    by : Turns s p q → Goes (children (tableOf s) p) (taskAt s p) (taskAt s′ p) (λ l. moveAt p l s q)
+    by (moves _ able m e) = same-core e m (one-move s p (on .valid) (on .kind) able away (on .looks))
+    by (stays m e) = same-core {u = taskAt s p} {made = λ l. 0} e m (record { less = omega arith; looks = on .looks })
 
-    next : On p s′
-    next = record { valid = turn-valid s q (on .valid); kind = turn-constants s q .kind ∙ on .kind; looks = first .looks }
+    goes : Goes (children (tableOf s) p) (taskAt s p) (taskAt s′ p) (λ l. moveAt p l s q)
+    goes = by (turns s p q (on .valid))
 
-    together : (l : ℕ) → yetOf (children (tableOf s) p) (taskAt s p) l ≡ moveAt p l s q + yetOf (children (tableOf s) p) (taskAt s′ p) l
-        → timesAt p l s′ ts ≡ yetOf (children (tableOf s) p) (taskAt s′ p) l → timesAt p l s (q ∷ ts) ≡ yetOf (children (tableOf s) p) (taskAt s p) l
+-- the moves that p makes until it is back are those that it had to make
+all-turns : (p : ℕ) (ts : List ℕ) (s : State) → On p s → FirstBack p s ts → Each (λ l. timesAt p l s ts ≡ yetIn p s l)
+all-turns p [] s on back = rw back (refl, refl, refl, refl, refl, refl, refl)
+all-turns p (q ∷ ts) s on back = let first = one-turn s p q on (back .0) in both together (first .0) (all-turns p ts s′ (first .1) (back .1))
+  where
+    s′ : State
+    s′ = turnOf s q .state
+
+    together : (l : ℕ) → yetIn p s l ≡ moveAt p l s q + yetIn p s′ l → timesAt p l s′ ts ≡ yetIn p s′ l → timesAt p l s (q ∷ ts) ≡ yetIn p s l
     together l less rest = ap (λ (x : ℕ). moveAt p l s q + x) rest ∙ sym less
 
 -- ---- the claim
