@@ -14,7 +14,15 @@ pub struct Start {
     pub modulus: usize,
     pub parents: Vec<u8>,
     pub starts: Vec<u8>,
+    pub works: Vec<u8>,
     pub schedule: Vec<u8>,
+}
+
+impl Start {
+    /// The tables, in the order in which the functions take them.
+    pub fn tables(&self) -> [&[u8]; 3] {
+        [&self.parents, &self.starts, &self.works]
+    }
 }
 
 /// An answer: the reason of a refusal, 0 if there is none, the lent number, and the rounds closed.

@@ -41,7 +41,8 @@ pub fn passes(n: usize, schedule: &[u8], pairs: &mut [u32]) -> Answer {
 
 pub fn play(start: &Start, trace: &[u8]) -> Answer {
     let [kind, n, modulus] = [start.kind, start.n, start.modulus].map(|number| number as u64);
-    let tables = Tables { parents: &start.parents, starts: &start.starts };
+    let [parents, starts, works] = start.tables();
+    let tables = Tables { parents, starts, works };
     match playback::play(&mut State::ZERO.clone(), kind, n, modulus, tables, trace) {
         Ok(Verdict::Agrees) => Answer { rounds: 1, ..accepted(0) },
         Ok(Verdict::Differs(index)) => accepted(index),
@@ -60,7 +61,8 @@ pub fn sheet(text: &[u8], page: &mut [u8; PAGE]) -> usize {
 /// The whole schedule, run from a fresh state.
 fn run_from(state: &mut State, start: &Start, log: &mut [u8]) -> Answer {
     let [kind, n, modulus] = [start.kind, start.n, start.modulus].map(|number| number as u64);
-    let tables = Tables { parents: &start.parents, starts: &start.starts };
+    let [parents, starts, works] = start.tables();
+    let tables = Tables { parents, starts, works };
     match machine::fresh(state, kind, n, modulus, tables) {
         Ok(()) => told(machine::run(state, &start.schedule, start.schedule.len() as u64, log)),
         Err(refusal) => refused(refusal),

@@ -17,11 +17,11 @@ const ROUNDS: usize = 8;
 
 /// The reasons that each function can answer, 0 among them.
 const REASONS: [(Function, &[u8]); 6] = [
-    (Function::Run, &[0, 2, 3, 4, 5, 6, 8, 9, 10, 12]),
-    (Function::Turn, &[0, 2, 3, 4, 5, 6, 8, 9, 10, 12]),
-    (Function::Ready, &[0, 2, 3, 4, 5, 6, 8, 9, 10, 12]),
+    (Function::Run, &[0, 2, 3, 4, 5, 6, 8, 9, 10, 12, 15]),
+    (Function::Turn, &[0, 2, 3, 4, 5, 6, 8, 9, 10, 12, 15]),
+    (Function::Ready, &[0, 2, 3, 4, 5, 6, 8, 9, 10, 12, 15]),
     (Function::Passes, &[0, 3, 8, 9, 10]),
-    (Function::Play, &[0, 2, 3, 4, 5, 6, 8, 12, 14]),
+    (Function::Play, &[0, 2, 3, 4, 5, 6, 8, 12, 14, 15]),
     (Function::Sheet, &[0, 1, 2, 3, 4, 5, 6, 9]),
 ];
 

@@ -61,8 +61,8 @@ impl Run {
         let logs = || (UNDONE, vec![0; 2 * schedule.len()]);
         let (ours, theirs) = (logs(), logs());
         let modulus = if kind == SYMMETRIC { 3 } else { 0 };
-        let (kind, parents, starts) = (kind.into(), parents(kind, n), Vec::new());
-        let start = Start { kind, n, modulus, parents, starts, schedule };
+        let (parents, starts, works) = (parents(kind, n), Vec::new(), Vec::new());
+        let start = Start { kind: kind.into(), n, modulus, parents, starts, works, schedule };
         Run { start, ours, theirs }
     }
 }
@@ -92,8 +92,9 @@ impl Work for Run {
     }
 
     fn baseline(&mut self) {
-        let Start { kind, n, modulus, parents, starts, schedule } = &self.start;
-        let tables = Tables { parents, starts };
+        let Start { kind, n, modulus, schedule, .. } = &self.start;
+        let [parents, starts, works] = self.start.tables();
+        let tables = Tables { parents, starts, works };
         let mut state = State::ZERO;
         if fresh(&mut state, *kind as u64, *n as u64, *modulus as u64, tables).is_err() {
             return;
@@ -188,8 +189,9 @@ impl Work for Play {
     }
 
     fn baseline(&mut self) {
-        let Start { kind, n, modulus, parents, starts, .. } = &self.start;
-        let tables = Tables { parents, starts };
+        let Start { kind, n, modulus, .. } = &self.start;
+        let [parents, starts, works] = self.start.tables();
+        let tables = Tables { parents, starts, works };
         let (kind, n, modulus) = (*kind as u64, *n as u64, *modulus as u64);
         let verdict =
             playback::play(&mut State::ZERO.clone(), kind, n, modulus, tables, &self.trace);

@@ -19,6 +19,7 @@ mod table;
 mod tallies;
 mod trees;
 mod values;
+mod works;
 
 use super::random::Random;
 use super::recorder::Recorder;
@@ -51,6 +52,7 @@ pub fn stored() -> Recorder {
     starts::cases(&mut recorder);
     rounds::cases(&mut recorder);
     tallies::cases(&mut recorder);
+    works::cases(&mut recorder);
     playback::cases(&mut recorder);
     trees::cases(&mut recorder);
     malformed::cases(&mut recorder);

@@ -25,6 +25,10 @@ pub struct Task {
     pub moves: u32,
     pub waits: u32,
     pub line: u8,
+    /// Own work: how many moves it takes at 11 each time, and how many of them are left; all of
+    /// them as long as the task is elsewhere, unless somebody changed that.
+    pub work: u8,
+    pub left: u8,
     /// Symmetric: what the others read, and its value before the round.
     pub tag: u8,
     pub old: u8,
@@ -47,6 +51,8 @@ impl Task {
         moves: 0,
         waits: 0,
         line: 0,
+        work: 0,
+        left: 0,
         tag: 0,
         old: 0,
         looked: 0,
@@ -96,19 +102,21 @@ pub enum Outcome {
 
 // ---- fresh ----
 
-/// The tables that a fresh state is given.
-#[derive(Clone, Copy, Debug)]
+/// The tables that a fresh state is given; none of them by default.
+#[derive(Clone, Copy, Debug, Default)]
 pub struct Tables<'a> {
     /// A tree's parents; empty for the other kinds.
     pub parents: &'a [u8],
     /// The starts of a symmetric barrier, or empty: then every start is 0.
     pub starts: &'a [u8],
+    /// The work lengths, or empty: then every one is 1.
+    pub works: &'a [u8],
 }
 
 impl Tables<'_> {
     /// No table but the parents.
     pub fn of_parents(parents: &[u8]) -> Tables<'_> {
-        Tables { parents, starts: &[] }
+        Tables { parents, ..Tables::default() }
     }
 }
 
@@ -130,11 +138,13 @@ pub fn fresh(
     for (number, task) in state.tasks[..n as usize].iter_mut().enumerate() {
         task.line = 11;
         task.start = tables.starts.get(number).copied().unwrap_or(0);
+        task.work = tables.works.get(number).copied().unwrap_or(1);
+        task.left = task.work;
     }
     Ok(())
 }
 
-/// Checks 2 to 6, then 12.
+/// Checks 2 to 6, then 12 and 15.
 fn check_fresh(kind: u64, n: u64, modulus: u64, tables: Tables) -> Result<(), Refusal> {
     if kind > u64::from(TREE) {
         return Err(Refusal::Kind);
@@ -152,6 +162,9 @@ fn check_fresh(kind: u64, n: u64, modulus: u64, tables: Tables) -> Result<(), Re
     }
     if !starts_fit(kind, n, tables.starts) {
         return Err(Refusal::Starts);
+    }
+    if !works_fit(n, tables.works) {
+        return Err(Refusal::Works);
     }
     Ok(())
 }
@@ -174,6 +187,11 @@ fn parents_fit(parents: &[u8]) -> bool {
 fn starts_fit(kind: u8, n: usize, starts: &[u8]) -> bool {
     let whole = kind == SYMMETRIC && starts.len() == n;
     starts.is_empty() || (whole && starts.iter().all(|&start| usize::from(start) < n))
+}
+
+/// There is no work table, or it has an entry from 1 on for each task.
+fn works_fit(n: usize, works: &[u8]) -> bool {
+    works.is_empty() || (works.len() == n && works.iter().all(|&work| work > 0))
 }
 
 // ---- turn ----
@@ -295,7 +313,7 @@ fn symmetric(state: &mut State, task: usize) {
     let everyone = all_tasks(state.n);
     let own = &mut state.tasks[task];
     match own.line {
-        11 => own.line = 12,
+        11 => own_work(own),
         12 => {
             own.old = own.tag;
             own.tag = ((u16::from(own.old) + 1) % u16::from(state.modulus)) as u8;
@@ -316,7 +334,7 @@ fn symmetric(state: &mut State, task: usize) {
 fn fetch_and_increment(state: &mut State, task: usize) {
     let own = &mut state.tasks[task];
     match own.line {
-        11 => own.line = 12,
+        11 => own_work(own),
         12 => {
             own.aim = 1 - state.sense;
             own.line = 13;
@@ -344,7 +362,7 @@ fn fetch_and_increment(state: &mut State, task: usize) {
 fn ring(state: &mut State, task: usize) {
     let next = if task + 1 < usize::from(state.n) { task + 1 } else { 0 };
     match state.tasks[task].line {
-        11 => state.tasks[task].line = 12,
+        11 => own_work(&mut state.tasks[task]),
         12 => state.tasks[task].line = 13,
         13 => {
             state.tasks[next].toggle = 1;
@@ -363,7 +381,7 @@ fn ring(state: &mut State, task: usize) {
 /// Carries out a line of the tree barrier.
 fn tree(state: &mut State, task: usize) {
     match state.tasks[task].line {
-        11 => state.tasks[task].line = 12,
+        11 => own_work(&mut state.tasks[task]),
         12 => list_children(state, task, 13),
         13 => look(&mut state.tasks[task], 0, 15),
         14 => take_off(&mut state.tasks[task]),
@@ -379,6 +397,16 @@ fn tree(state: &mut State, task: usize) {
         17 => list_children(state, task, 18),
         18 => release(state, task),
         line => no_such_line(line),
+    }
+}
+
+/// Line 11: one move of the task's own work. The last one leads on, and all are left again.
+fn own_work(own: &mut Task) {
+    if own.left > 1 {
+        own.left -= 1;
+    } else {
+        own.left = own.work;
+        own.line = 12;
     }
 }
 
@@ -540,7 +568,8 @@ fn shared_in_range(state: &State) -> bool {
         && state.parents[entries..].iter().all(|&parent| parent == 0)
 }
 
-/// The highest value of each field of a task but its list; 0 where the kind doesn't use it.
+/// The highest value of each field of a task but its list and its work; 0 where the kind doesn't
+/// use it.
 fn highest_fields(state: &State) -> Task {
     let mut highest = Task::ZERO;
     highest.count = MAX_COUNT;
@@ -592,6 +621,8 @@ fn task_in_range(task: &Task, highest: &Task, list: u64) -> bool {
         && task.count <= highest.count
         && task.moves <= highest.moves
         && task.waits <= highest.waits
+        // The moves left are from 1 on, so that the work length is too.
+        && (1..=task.work).contains(&task.left)
         && task.tag <= highest.tag
         && task.old <= highest.old
         && task.looked <= highest.looked

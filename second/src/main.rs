@@ -22,6 +22,7 @@ mod soak;
 mod spelling;
 mod starts;
 mod traces;
+mod works;
 
 #[cfg(test)]
 mod tests;

@@ -60,11 +60,12 @@ impl Recorder {
         self.fresh(kind.into(), n as u64, modulus, &parents);
     }
 
-    /// Request 10 with a parent and a start table.
+    /// Request 10 with the tables.
     pub fn fresh_with(&mut self, kind: u64, n: u64, modulus: u64, tables: Tables) {
-        let lengths = [tables.parents, tables.starts].map(|table| table.len() as u64);
-        let numbers = [10, kind, n, modulus, lengths[0], lengths[1], 0];
-        self.ask(line(&numbers, &[tables.parents, tables.starts].concat()));
+        let tables = [tables.parents, tables.starts, tables.works];
+        let lengths = tables.map(|table| table.len() as u64);
+        let numbers = [&[10, kind, n, modulus][..], &lengths].concat();
+        self.ask(line(&numbers, &tables.concat()));
     }
 
     /// Request 10 of a setup.
@@ -74,7 +75,15 @@ impl Recorder {
 
     /// Request 10 of a symmetric barrier with R 3 and these starts.
     pub fn fresh_starts(&mut self, n: u64, starts: &[u8]) {
-        self.fresh_with(SYMMETRIC.into(), n, 3, Tables { parents: &[], starts });
+        self.fresh_with(SYMMETRIC.into(), n, 3, Tables { starts, ..Tables::default() });
+    }
+
+    /// Request 10 of a kind with a work table; otherwise as `fresh_kind` makes it.
+    pub fn fresh_works(&mut self, kind: u8, n: usize, works: &[u8]) {
+        let parents = vec![0; if kind == TREE { n } else { 0 }];
+        let modulus = if kind == SYMMETRIC { 3 } else { 0 };
+        let tables = Tables { parents: &parents, starts: &[], works };
+        self.fresh_with(kind.into(), n as u64, modulus, tables);
     }
 
     /// Request 2.

@@ -42,6 +42,8 @@ pub enum Refusal {
     TallyLimit,
     /// 14: the trace's length is no multiple of three.
     TraceLength,
+    /// 15: the work table's length is neither 0 nor N, or an entry is 0.
+    Works,
 }
 
 impl Refusal {
@@ -62,6 +64,7 @@ impl Refusal {
             Refusal::Starts => 12,
             Refusal::TallyLimit => 13,
             Refusal::TraceLength => 14,
+            Refusal::Works => 15,
         }
     }
 }

@@ -21,7 +21,7 @@ const MAX_LIST: u64 = 131_072;
 const MAX_TABLE: u64 = 4_096;
 
 /// The numbers of a task's fields in request 6. Request 5 shows them in this order.
-pub const TASK_FIELDS: [u64; 12] = [0, 1, 2, 3, 4, 5, 6, 7, 8, 15, 16, 17];
+pub const TASK_FIELDS: [u64; 14] = [0, 1, 2, 3, 4, 5, 6, 7, 8, 15, 16, 17, 18, 19];
 
 /// The answer to a line that is no request.
 const BAD_LINE: &str = "bad line";
@@ -64,11 +64,11 @@ impl Replay {
             [7, n, length, turns @ ..] => answer_passes(*n, *length, turns),
             [8, n, place, turns @ ..] => answer_first_pass(*n, *place, turns),
             [9, shape, n, length] => answer_shape(*shape, *n, *length),
-            [10, kind, n, modulus, parents, starts, 0, entries @ ..] => {
-                self.fresh_with_tables([*kind, *n, *modulus], [*parents, *starts], entries)
+            [10, kind, n, modulus, parents, starts, works, entries @ ..] => {
+                self.fresh_with_tables([*kind, *n, *modulus], [*parents, *starts, *works], entries)
             }
-            [11, kind, n, modulus, parents, starts, 0, entries @ ..] => {
-                self.play([*kind, *n, *modulus], [*parents, *starts], entries)
+            [11, kind, n, modulus, parents, starts, works, entries @ ..] => {
+                self.play([*kind, *n, *modulus], [*parents, *starts, *works], entries)
             }
             _ => None,
         }
@@ -80,27 +80,29 @@ impl Replay {
         Some(self.fresh(head, Tables::of_parents(&parents)))
     }
 
-    /// Request 10: the entries are a parent and a start table of these lengths and nothing else.
+    /// Request 10: the entries are a parent, a start and a work table of these lengths and nothing
+    /// else.
     fn fresh_with_tables(
         &mut self,
         head: [u64; 3],
-        lengths: [u64; 2],
+        lengths: [u64; 3],
         entries: &[u64],
     ) -> Option<String> {
-        let ([parents, starts], rest) = first_tables(entries, lengths)?;
-        let tables = Tables { parents: &parents, starts: &starts };
+        let ([parents, starts, works], rest) = first_tables(entries, lengths)?;
+        let tables = Tables { parents: &parents, starts: &starts, works: &works };
         rest.is_empty().then(|| self.fresh(head, tables))
     }
 
-    /// Request 11: the entries are a parent and a start table of these lengths, then the trace.
+    /// Request 11: the entries are a parent, a start and a work table of these lengths, then the
+    /// trace.
     fn play(
         &mut self,
         [kind, n, modulus]: [u64; 3],
-        lengths: [u64; 2],
+        lengths: [u64; 3],
         entries: &[u64],
     ) -> Option<String> {
-        let ([parents, starts], rest) = first_tables(entries, lengths)?;
-        let tables = Tables { parents: &parents, starts: &starts };
+        let ([parents, starts, works], rest) = first_tables(entries, lengths)?;
+        let tables = Tables { parents: &parents, starts: &starts, works: &works };
         let trace = bytes(rest, MAX_REQUEST_TRACE)?;
         Some(match play(&mut self.state, kind, n, modulus, tables, &trace) {
             Ok(verdict) => verdict.to_string(),
@@ -157,7 +159,7 @@ impl Replay {
     fn change(&mut self, field: u64, task: u64, value: u64) -> Option<String> {
         let task = usize::try_from(task).ok()?;
         match field {
-            0..=8 | 15..=17 => change_task(self.state.tasks.get_mut(task)?, field, value)?,
+            0..=8 | 15..=19 => change_task(self.state.tasks.get_mut(task)?, field, value)?,
             9..=13 if task == 0 => *shared_field(&mut self.state, field) = byte(value)?,
             14 => *self.state.parents.get_mut(task)? = byte(value)?,
             _ => return None,
@@ -181,6 +183,8 @@ fn task_fields(task: &Task) -> [u64; TASK_FIELDS.len()] {
         task.start.into(),
         task.moves.into(),
         task.waits.into(),
+        task.work.into(),
+        task.left.into(),
     ]
 }
 
@@ -213,7 +217,9 @@ fn change_task(task: &mut Task, field: u64, value: u64) -> Option<()> {
         8 => task.flag = byte(value)?,
         15 => task.start = byte(value)?,
         16 => task.moves = word(value)?,
-        _ => task.waits = word(value)?,
+        17 => task.waits = word(value)?,
+        18 => task.work = byte(value)?,
+        _ => task.left = byte(value)?,
     }
     Some(())
 }
@@ -319,11 +325,13 @@ fn bytes(numbers: &[u64], most: usize) -> Option<Vec<u8>> {
     numbers.iter().map(|&number| byte(number)).collect()
 }
 
-/// The first entries as a parent and a start table of so many bytes, and the entries after them.
-fn first_tables(entries: &[u64], lengths: [u64; 2]) -> Option<([Vec<u8>; 2], &[u64])> {
+/// The first entries as a parent, a start and a work table of so many bytes, and the entries after
+/// them.
+fn first_tables(entries: &[u64], lengths: [u64; 3]) -> Option<([Vec<u8>; 3], &[u64])> {
     let (parents, rest) = first_table(entries, lengths[0])?;
     let (starts, rest) = first_table(rest, lengths[1])?;
-    Some(([parents, starts], rest))
+    let (works, rest) = first_table(rest, lengths[2])?;
+    Some(([parents, starts, works], rest))
 }
 
 /// The first entries as a table of so many bytes, and the entries after it.

@@ -3,31 +3,32 @@
 use super::machine::{fresh, run, State, Tables};
 
 /// A kind, N, R and tables, which may be refused.
-#[derive(Clone, Debug)]
+#[derive(Clone, Debug, Default)]
 pub struct Setup {
     pub kind: u64,
     pub n: u64,
     pub modulus: u64,
     pub parents: Vec<u8>,
     pub starts: Vec<u8>,
+    pub works: Vec<u8>,
 }
 
 impl Setup {
-    /// The numbers before the tables: the kind, N, R and the tables' lengths, of which the last is
-    /// that of the work table, which there isn't yet.
+    /// The numbers before the tables: the kind, N, R and the tables' lengths.
     pub fn head(&self) -> [u64; 6] {
-        let [parents, starts] = [&self.parents, &self.starts].map(|table| table.len() as u64);
-        [self.kind, self.n, self.modulus, parents, starts, 0]
+        let tables = [&self.parents, &self.starts, &self.works];
+        let [parents, starts, works] = tables.map(|table| table.len() as u64);
+        [self.kind, self.n, self.modulus, parents, starts, works]
     }
 
     /// The entries of the tables, one table after another.
     pub fn entries(&self) -> Vec<u8> {
-        [&self.parents[..], &self.starts].concat()
+        [&self.parents[..], &self.starts, &self.works].concat()
     }
 
     /// The tables.
     pub fn tables(&self) -> Tables<'_> {
-        Tables { parents: &self.parents, starts: &self.starts }
+        Tables { parents: &self.parents, starts: &self.starts, works: &self.works }
     }
 
     /// The trace of a schedule; it says nothing true where the setup or the schedule is refused.

@@ -1,5 +1,5 @@
-//! Tests: the scope's cases and traps, the refusals, starts, rounds, tallies, play-back, all
-//! reachable states of small barriers, and the texts of the sheet, the play and the replay.
+//! Tests: the scope's cases and traps, the refusals, starts, rounds, tallies, play-back, own work,
+//! all reachable states of small barriers, and the texts of the sheet, the play and the replay.
 
 mod calls;
 mod playback;
@@ -13,12 +13,14 @@ mod table;
 mod tallies;
 mod texts;
 mod traps;
+mod works;
 
 use crate::machine::{fresh, turn, Outcome, State, Tables, SYMMETRIC, TREE};
 use crate::parents;
 use crate::random::Random;
 use crate::refusal::Refusal;
 use crate::schedules;
+use crate::works::{equal, up_to};
 
 /// A fresh state that must be accepted.
 fn begin(kind: u8, n: u64, modulus: u64, parents: &[u8]) -> State {
@@ -30,9 +32,20 @@ fn begin(kind: u8, n: u64, modulus: u64, parents: &[u8]) -> State {
 /// A fresh symmetric state with a start table; it must be accepted.
 fn begin_starts(modulus: u64, starts: &[u8]) -> State {
     let mut state = State::ZERO;
-    let tables = Tables { parents: &[], starts };
+    let tables = Tables { starts, ..Tables::default() };
     let n = starts.len() as u64;
     assert_eq!(fresh(&mut state, SYMMETRIC.into(), n, modulus, tables), Ok(()));
+    state
+}
+
+/// A fresh state with a work table, with R 3 if it is symmetric and as a flat tree; it must be
+/// accepted.
+fn begin_works(kind: u8, works: &[u8]) -> State {
+    let modulus = if kind == SYMMETRIC { 3 } else { 0 };
+    let parents = vec![0; if kind == TREE { works.len() } else { 0 }];
+    let mut state = State::ZERO;
+    let tables = Tables { parents: &parents, starts: &[], works };
+    assert_eq!(fresh(&mut state, kind.into(), works.len() as u64, modulus, tables), Ok(()));
     state
 }
 
@@ -40,12 +53,17 @@ fn begin_starts(modulus: u64, starts: &[u8]) -> State {
 fn begin_any(random: &mut Random) -> State {
     let kind = random.below(4) as u8;
     let n = random.length(1, 9);
-    match kind {
+    let mut state = match kind {
         SYMMETRIC if random.once_in(2) => begin_starts(3, &schedules::uniform(random, n, n)),
         SYMMETRIC => begin(kind, n as u64, 3, &[]),
         TREE => begin(kind, n as u64, 0, &parents::any(random, n)),
         _ => begin(kind, n as u64, 0, &[]),
+    };
+    let works = if random.once_in(2) { equal(1, n) } else { up_to(random, 4, n) };
+    for (task, work) in state.tasks.iter_mut().zip(works) {
+        (task.work, task.left) = (work, work);
     }
+    state
 }
 
 /// The refusal's number of a fresh state, or 0 if it is accepted.
@@ -55,8 +73,13 @@ fn fresh_number(kind: u64, n: u64, modulus: u64, parents: &[u8]) -> u8 {
 
 /// The refusal's number of a fresh state with a start table, or 0 if it is accepted.
 fn starts_number(kind: u64, n: u64, modulus: u64, parents: &[u8], starts: &[u8]) -> u8 {
+    tables_number(kind, n, modulus, Tables { parents, starts, works: &[] })
+}
+
+/// The refusal's number of a fresh state with tables, or 0 if it is accepted.
+fn tables_number(kind: u64, n: u64, modulus: u64, tables: Tables) -> u8 {
     let mut state = State::ZERO;
-    number(fresh(&mut state, kind, n, modulus, Tables { parents, starts }))
+    number(fresh(&mut state, kind, n, modulus, tables))
 }
 
 /// The number of a refusal, or 0 if there is none.

@@ -1,6 +1,7 @@
 //! The named traces of every kind, for the stored cases and the plays, and each one with a byte
 //! changed. Those of kind 0 without a start table rely on what the start is then, so they alone
-//! stand for it among the stored cases, and a list of them can be printed.
+//! stand for it among the stored cases, and a list of them can be printed. Beside the named traces,
+//! which have no work table, there is one with such a table for each kind.
 
 use super::machine::{FETCH_AND_INCREMENT, RING, SYMMETRIC, TREE};
 use super::schedules::{cycle, each, repeat};
@@ -31,6 +32,7 @@ struct Row {
     modulus: u8,
     parents: &'static [u8],
     starts: &'static [u8],
+    works: &'static [u8],
     schedule: fn() -> Vec<u8>,
     shows: &'static str,
 }
@@ -43,6 +45,7 @@ const RING_OF_ONE: Row = Row {
     modulus: 0,
     parents: &[],
     starts: &[],
+    works: &[],
     schedule: || repeat(0, 13),
     shows: "one task, which sets and clears its own toggle",
 };
@@ -150,6 +153,48 @@ const ROWS: [Row; 13] = [
     },
 ];
 
+/// A row of each kind with a work table.
+const WORKED: [Row; 4] = [
+    Row {
+        name: "symmetric-worked",
+        kind: SYMMETRIC,
+        n: 3,
+        modulus: 3,
+        starts: &[1, 2, 0],
+        works: &[3, 1, 2],
+        schedule: || each((0..3).rev(), 7).repeat(5),
+        shows: "the longest work is that of the last to come",
+        ..RING_OF_ONE
+    },
+    Row {
+        name: "increment-worked",
+        kind: FETCH_AND_INCREMENT,
+        n: 2,
+        works: &[1, 4],
+        schedule: || cycle(2, 44),
+        shows: "task 0 waits while task 1 works",
+        ..RING_OF_ONE
+    },
+    Row {
+        name: "ring-worked",
+        n: 3,
+        works: &[2, 5, 1],
+        schedule: || cycle(3, 63),
+        shows: "the message stays with task 1 while it works",
+        ..RING_OF_ONE
+    },
+    Row {
+        name: "tree-worked",
+        kind: TREE,
+        n: 3,
+        parents: &[0, 0, 1],
+        works: &[4, 2, 3],
+        schedule: || each((0..3).rev(), 5).repeat(6),
+        shows: "the root works longest",
+        ..RING_OF_ONE
+    },
+];
+
 impl Row {
     /// Runs the schedule.
     fn named(&self) -> Named {
@@ -159,6 +204,7 @@ impl Row {
             modulus: self.modulus.into(),
             parents: self.parents.to_vec(),
             starts: self.starts.to_vec(),
+            works: self.works.to_vec(),
         };
         let trace = setup.trace(&(self.schedule)());
         Named { name: self.name, shows: self.shows, setup, trace }
@@ -168,6 +214,11 @@ impl Row {
 /// All named traces.
 pub fn all() -> Vec<Named> {
     ROWS.iter().map(Row::named).collect()
+}
+
+/// The traces with a work table, one of each kind.
+pub fn worked() -> Vec<Named> {
+    WORKED.iter().map(Row::named).collect()
 }
 
 /// The rows of a table, one for each named trace of kind 0 without a start table: its name, the
@@ -198,6 +249,17 @@ impl Named {
         let middle = self.triples() / 2;
         let waited = (middle..self.triples()).find(|index| self.trace[3 * index + 2] == 0);
         [("first", 0), ("middle", waited.unwrap_or(middle)), ("last", self.triples() - 1)]
+    }
+
+    /// The indices of the triples with which a task ends its work: at its next one it is at 12.
+    pub fn ends_of_work(&self) -> Vec<usize> {
+        let ends = |&index: &usize| {
+            let task = self.trace[3 * index];
+            let mut later = self.trace[3 * index + 3..].chunks_exact(3);
+            let next = later.find(|triple| triple[0] == task);
+            self.trace[3 * index + 1] == 11 && next.is_some_and(|triple| triple[1] == 12)
+        };
+        (0..self.triples()).filter(ends).collect()
     }
 
     /// The trace with one byte changed, for each byte of these three triples: another task, no

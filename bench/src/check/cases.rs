@@ -32,6 +32,7 @@ pub fn random(random: &mut Random, kind: u8, n: usize) -> Case {
         modulus: if kind == SYMMETRIC { random.length(3, 255) } else { 0 },
         parents: if kind == TREE { parents(random, n) } else { Vec::new() },
         starts: if kind == SYMMETRIC { starts(random, n) } else { Vec::new() },
+        works: works(random, n),
         schedule: schedules::any(random, n, length),
     };
     let mut case = Case::new(start);
@@ -55,6 +56,13 @@ fn starts(random: &mut Random, n: usize) -> Vec<u8> {
     (0..length).map(|_| random.below(n as u64) as u8).collect()
 }
 
+/// No table, or for each task a work length that is short but for one in eight.
+fn works(random: &mut Random, n: usize) -> Vec<u8> {
+    let length = if random.once_in(2) { 0 } else { n };
+    let most = if random.once_in(8) { 255 } else { 3 };
+    (0..length).map(|_| 1 + random.below(most) as u8).collect()
+}
+
 /// The case with one or two things changed, of which most are refused.
 pub fn damaged(random: &mut Random, case: &Case) -> Case {
     let mut case = case.clone();
@@ -67,7 +75,7 @@ pub fn damaged(random: &mut Random, case: &Case) -> Case {
 
 fn damage(random: &mut Random, case: &mut Case) {
     let Case { start, log, pairs, .. } = case;
-    match random.below(9) {
+    match random.below(11) {
         0 => start.kind = random.pick(&[0, 1, 2, 3, 4, 5, 255, 256, 259, 1 << 32, usize::MAX]),
         1 => start.n = random.pick(&[0, 1, 63, 64, 65, 255, 256, 257, 320, 1 << 32, usize::MAX]),
         2 => start.modulus = random.pick(&[0, 1, 2, 3, 255, 256, 259, 1 << 32, usize::MAX]),
@@ -75,7 +83,9 @@ fn damage(random: &mut Random, case: &mut Case) {
         4 => damage_entry(random, &mut start.parents),
         5 => start.starts.resize(random.length(0, 70), random.below(64) as u8),
         6 => damage_entry(random, &mut start.starts),
-        7 => damage_entry(random, &mut start.schedule),
+        7 => start.works.resize(random.length(0, 70), random.below(4) as u8),
+        8 => damage_work(random, &mut start.works),
+        9 => damage_entry(random, &mut start.schedule),
         _ => {
             *log = random.length(0, *log);
             *pairs = random.length(0, *pairs);
@@ -90,7 +100,14 @@ fn damage_entry(random: &mut Random, bytes: &mut [u8]) {
     }
 }
 
-/// Schedules of the most turns and of one more; logs, lists, tasks and start tables at their limits on both sides.
+/// No work length, or the longest, at any place.
+fn damage_work(random: &mut Random, works: &mut [u8]) {
+    if !works.is_empty() {
+        works[random.below(works.len() as u64) as usize] = random.pick(&[0, 0, 255]);
+    }
+}
+
+/// Schedules of the most turns and of one more; logs, lists, tasks, start and work tables at their limits on both sides.
 pub fn at_limits() -> Vec<Case> {
     let mut cases = Vec::new();
     for kind in 0..4 {
@@ -99,6 +116,7 @@ pub fn at_limits() -> Vec<Case> {
             cases.extend([MAX_TURNS, MAX_TURNS + 1].map(|turns| long(&least, turns)));
             cases.extend(around(&least));
             cases.extend(started(&least));
+            cases.extend(worked(&least));
         }
     }
     cases.push(last_is_no_task());
@@ -109,7 +127,8 @@ pub fn at_limits() -> Vec<Case> {
 fn least(kind: u8, n: usize) -> Start {
     let modulus = if kind == SYMMETRIC { 3 } else { 0 };
     let parents = vec![0; if kind == TREE { n } else { 0 }];
-    Start { kind: kind.into(), n, modulus, parents, starts: Vec::new(), schedule: Vec::new() }
+    let (starts, works, schedule) = (Vec::new(), Vec::new(), Vec::new());
+    Start { kind: kind.into(), n, modulus, parents, starts, works, schedule }
 }
 
 fn long(start: &Start, turns: usize) -> Case {
@@ -136,6 +155,20 @@ fn started(start: &Start) -> Vec<Case> {
     let cases =
         tables.map(|(length, entry)| Start { starts: vec![entry; length], ..start.clone() });
     cases.iter().map(|start| long(start, 3 * start.n)).collect()
+}
+
+/// Turns enough for three rounds with work tables of each length around N, and of the lengths 0, 1, 2 and 255.
+fn worked(start: &Start) -> Vec<Case> {
+    let tables = [
+        (start.n - 1, 1),
+        (start.n, 1),
+        (start.n + 1, 1),
+        (start.n, 0),
+        (start.n, 2),
+        (start.n, 255),
+    ];
+    let cases = tables.map(|(length, work)| Start { works: vec![work; length], ..start.clone() });
+    cases.iter().map(|start| long(start, 800 * start.n)).collect()
 }
 
 /// 65,536 turns, of which the last is no task: all of them are looked at, and none is made.

@@ -20,11 +20,12 @@ pub fn all(random: &mut Random, start: &Start) -> [Vec<u8>; 3] {
 
 /// The trace of the run of a start's schedule, as far as a trace can go. Where the run is refused, its schedule with a line and an outcome for each turn.
 fn woven(start: &Start) -> Vec<u8> {
-    let Start { kind, n, modulus, parents, starts, schedule } = start;
+    let Start { kind, n, modulus, schedule, .. } = start;
+    let [parents, starts, works] = start.tables();
     let schedule = &schedule[..schedule.len().min(MAX_TRACE / 3)];
     let mut state = State::ZERO;
     let mut log = [11, 1].repeat(schedule.len());
-    let tables = Tables { parents, starts };
+    let tables = Tables { parents, starts, works };
     if fresh(&mut state, *kind as u64, *n as u64, *modulus as u64, tables).is_ok() {
         run(&mut state, schedule, schedule.len() as u64, &mut log);
     }
@@ -41,6 +42,7 @@ pub fn at_limits() -> Vec<(Start, Vec<u8>)> {
         modulus: 0,
         parents: Vec::new(),
         starts: Vec::new(),
+        works: Vec::new(),
         schedule,
     };
     let longest = woven(&start);

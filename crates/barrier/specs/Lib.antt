@@ -1,5 +1,5 @@
 -- The laws that each barrier has (`Barrier`, over a `View` of the state), and what they share: sums (`Sum`), the turns that move (`Moves`), a
--- task stored (`Puts`), the moves of a line (`Lines`), and how far a state is (`Place`).
+-- task stored (`Puts`), the moves of a line (`Lines`), how far a state is (`Place`), and how often a task moves at a line (`Times`), at 11 above all (`Work`).
 pub mod Sum
 pub mod View
 pub mod Barrier
@@ -7,3 +7,7 @@ pub mod Moves
 pub mod Puts
 pub mod Lines
 pub mod Place
+pub mod Times
+pub mod TimesLaws
+pub mod Work
+pub mod WorkLaws

@@ -36,10 +36,10 @@ abbrev pub setup : ℕ → ℕ → ℕ → Setup
 setup kind n modulus = record { kind = kind; n = n; modulus = modulus }
 
 abbrev pub fresh : ℕ → ℕ → ℕ → List ℕ → State
-fresh kind n modulus parents = freshOf (inputsOf (setup kind n modulus) parents []) .state
+fresh kind n modulus parents = freshOf (inputsOf (setup kind n modulus) parents [] []) .state
 
 abbrev pub reason : ℕ → ℕ → ℕ → List ℕ → ℕ
-reason kind n modulus parents = freshOf (inputsOf (setup kind n modulus) parents []) .reason
+reason kind n modulus parents = freshOf (inputsOf (setup kind n modulus) parents [] []) .reason
 
 -- the state after the turns
 abbrev pub after : State → List ℕ → State

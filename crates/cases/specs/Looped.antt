@@ -6,7 +6,7 @@ use lib.ListN.{replicate}
 use Rattle.machine.specs.declared.State.{State}
 use Rattle.machine.specs.Setters.{taskAt}
 use Rattle.machine.specs.Turn.{turnOf}
-use Rattle.tree.specs.Loop.{timesAt}
+use Rattle.barrier.specs.Times.{timesAt}
 use Rattle.cases.specs.Cases.{computing, fresh, after}
 
 -- the line of p before each turn, and after the last

@@ -17,10 +17,10 @@ sheet-trace =
 
 -- a play-back of two tasks of kind 1, and one with a start table, which that kind does not take
 abbrev pub plays : List ℕ → Played
-plays trace = playOf (inputsOf (setup 1 2 0) [] []) trace
+plays trace = playOf (inputsOf (setup 1 2 0) [] [] []) trace
 
 abbrev pub plays-started : List ℕ → Played
-plays-started trace = playOf (inputsOf (setup 1 2 0) [] (0 ∷ 0 ∷ [])) trace
+plays-started trace = playOf (inputsOf (setup 1 2 0) [] (0 ∷ 0 ∷ []) []) trace
 
 -- the trace with another byte at a place, from 0
 abbrev pub changed : ℕ → ℕ → List ℕ

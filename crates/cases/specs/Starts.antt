@@ -11,10 +11,10 @@ use Rattle.cases.specs.Cases.{computing, setup, after}
 
 -- a symmetric state with R 3 and a start table, and the reason of a call with one
 abbrev pub fresh : ℕ → List ℕ → State
-fresh n starts = freshOf (inputsOf (setup 0 n 3) [] starts) .state
+fresh n starts = freshOf (inputsOf (setup 0 n 3) [] starts []) .state
 
 abbrev pub reason : ℕ → ℕ → ℕ → List ℕ → List ℕ → ℕ
-reason kind n modulus parents starts = freshOf (inputsOf (setup kind n modulus) parents starts) .reason
+reason kind n modulus parents starts = freshOf (inputsOf (setup kind n modulus) parents starts []) .reason
 
 -- the task that the named task looks at after each turn
 abbrev pub looks : State → List ℕ → List ℕ

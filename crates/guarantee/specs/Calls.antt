@@ -11,6 +11,7 @@ use Rattle.machine.specs.declared.Outcome.the-variants.{Made, Refused}
 use Rattle.machine.specs.Setters.{taskAt}
 use Rattle.machine.specs.Fresh.{Inputs, freshReason, freshOf}
 use Rattle.machine.specs.Turn.{turnOf}
+use Rattle.barrier.specs.Sum.{sum}
 use Rattle.runner.specs.Trace.{countedIn}
 use Rattle.runner.specs.Run.{runReason, runTrace, runOf}
 
@@ -62,10 +63,18 @@ Close s = (q r : ℕ) → q < s .n → r < s .n → taskAt s q .count ≤ taskAt
 abbrev pub Behind : State → Type 0
 Behind s = (q r : ℕ) → q < s .n → r < s .n → taskAt s q .line ≡ 11 → taskAt s q .count ≤ taskAt s r .count
 
--- demand 3: "M is N(2N+3) symmetric, 5N fetch-and-increment and ring, 10N − 3 tree."
-abbrev pub M : State → ℕ
-M s =
+-- demand 3: "M is N(2N+3) symmetric, 5N fetch-and-increment and ring, 10N − 3 tree": with one move of work in a round
+abbrev pub M₁ : State → ℕ
+M₁ s =
     pick (eqb (s .kind) 0) (s .n * (2 * s .n + 3))
     (pick (eqb (s .kind) 1) (5 * s .n)
     (pick (eqb (s .kind) 2) (5 * s .n)
     (pick (eqb (s .kind) 3) (10 * s .n - 3) 0)))
+
+-- 02, P6: "the sum of all work lengths less N"
+abbrev pub W : State → ℕ
+W s = sum (s .n) (λ q. taskAt s q .work) - s .n
+
+-- "In the progress rule M grows by" it
+abbrev pub M : State → ℕ
+M s = M₁ s + W s

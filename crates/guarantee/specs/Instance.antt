@@ -2,18 +2,20 @@
 use mathlib.Core.Path.{_≡_, refl, _∙_}
 use mathlib.Core.List.{List}
 use mathlib.Core.Logic.{_≢_, _⊎_, inl, inr}
-use Prim.Native.Nat.{ℕ, zero, suc, _+_, _*_, _≤_, _<_}
+use Prim.Native.Nat.{ℕ, zero, suc, _+_, _-_, _*_, _≤_, _<_}
 use native.Mathlib.Nat.{le-refl}
 use native.Mathlib.Omega.{arith}
 use Rattle.lines.specs.Common.{maxCount}
 use Rattle.machine.specs.declared.State.{State}
-use Rattle.machine.specs.Range.{tableOf}
+use Rattle.machine.specs.Setters.{taskAt}
+use Rattle.machine.specs.Range.{tableOf, Valid}
 use Rattle.machine.specs.Turn.{turnOf}
 use Rattle.machine.specs.TurnLaws.{turn-constants}
 use Rattle.machine.specs.RangeLaws.{range}
 use Rattle.machine.specs.Least.{least}
 use Rattle.machine.specs.CountLaws.{turn-least}
-use Rattle.barrier.specs.Sum.{sum-const}
+use Rattle.barrier.specs.Sum.{sum, sum-same, sum-add, sum-const}
+use Rattle.barrier.specs.View.{viewOf}
 use Rattle.barrier.specs.Barrier.{Able, Holds, Barrier}
 use Rattle.barrier.specs.Moves.{keeps-all}
 use Rattle.barrier.specs.Place
@@ -26,7 +28,7 @@ use Rattle.ring.specs.Ring.{ring}
 use Rattle.tree.specs.Tree.{tree}
 use Rattle.tree.specs.TreeRange.{is-tree}
 use Rattle.tree.specs.Total.{total}
-use Rattle.guarantee.specs.Calls.{M}
+use Rattle.guarantee.specs.Calls.{M₁, W, M}
 use Rattle.guarantee.specs.Turns.{turned-to, Counts, afterTurns, AllCounted}
 
 -- the barrier of a kind
@@ -39,7 +41,7 @@ barrierOf (suc (suc (suc (suc k)))) h = absurd (omega arith)
 
 -- the moves of a round in a state, all tasks together
 abbrev pub movesOf : {kind : ℕ} → Barrier kind → State → ℕ
-movesOf b s = Place.M b (s .n) (tableOf s)
+movesOf b s = Place.M b (viewOf s)
 
 module _ {kind : ℕ} (b : Barrier kind) (n m : ℕ) where
   -- the invariant, with N and M as they are
@@ -89,11 +91,24 @@ unfolding counting
 rises b s ts i low counts cut =
     progress (counting b (s .n) (movesOf b s)) s ts (record { inv = i; tasks = refl; moves = refl }) low counts cut (le-refl (2 * movesOf b s))
 
+-- the moves of the work beyond the first of each task are W
+paper-W : (s : State) → Valid s → sum (s .n) (λ q. taskAt s q .work - 1) ≡ W s
+paper-W s ok =
+    let each : (q : ℕ) → q < s .n → taskAt s q .work - 1 + 1 ≡ taskAt s q .work
+    = λ q h. let mine = range s ok .tasks q h in omega (arith, mine .left-from, mine .left-to) in
+    let all = sum-same (s .n) (λ q. taskAt s q .work - 1 + 1) (λ q. taskAt s q .work) each in
+    omega (arith, all, sum-add (s .n) (λ q. taskAt s q .work - 1) (λ _. 1), sum-const (s .n) 1)
+
+-- with one move of work, the moves of a round are the M of 01
+paper-M₁ : (kind : ℕ) (h : kind ≤ 3) (s : State) → Holds kind (barrierOf kind h .Inv) s → sum (s .n) (barrierOf kind h .L (s .n) (tableOf s)) ≡ M₁ s
+unfolding barrierOf
+paper-M₁ zero h s i = sum-const (s .n) (2 * s .n + 3) ∙ rw (i .kind)
+paper-M₁ (suc zero) h s i = rw (i .kind) (omega (arith, sum-const (s .n) 5))
+paper-M₁ (suc (suc zero)) h s i = rw (i .kind) (omega (arith, sum-const (s .n) 5))
+paper-M₁ (suc (suc (suc zero))) h s i = rw (i .kind) (total (s .n) (tableOf s) (is-tree s (i .valid) (i .kind)) (range s (i .valid) .few))
+paper-M₁ (suc (suc (suc (suc k)))) h s i = absurd (omega arith)
+
 -- the moves of a round, all tasks together, are the M of the papers
 pub paper-M : (kind : ℕ) (h : kind ≤ 3) (s : State) → Holds kind (barrierOf kind h .Inv) s → movesOf (barrierOf kind h) s ≡ M s
-unfolding barrierOf
-paper-M zero h s i = sum-const (s .n) (2 * s .n + 3) ∙ rw (i .kind)
-paper-M (suc zero) h s i = rw (i .kind) (omega (arith, sum-const (s .n) 5))
-paper-M (suc (suc zero)) h s i = rw (i .kind) (omega (arith, sum-const (s .n) 5))
-paper-M (suc (suc (suc zero))) h s i = rw (i .kind) (total (s .n) (tableOf s) (is-tree s (i .valid) (i .kind)) (range s (i .valid) .few))
-paper-M (suc (suc (suc (suc k)))) h s i = absurd (omega arith)
+paper-M kind h s i =
+    omega (arith, sum-add (s .n) (barrierOf kind h .L (s .n) (tableOf s)) (λ q. taskAt s q .work - 1), paper-M₁ kind h s i, paper-W s (i .valid))

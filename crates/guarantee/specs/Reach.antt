@@ -2,16 +2,17 @@
 use mathlib.Core.Path.{_≡_, refl, sym, subst}
 use mathlib.Core.List.{List, [], _∷_}
 use mathlib.Core.Logic.{_≢_}
-use Prim.Native.Nat.{ℕ, zero, suc, _≤_}
+use Prim.Native.Nat.{ℕ, zero, suc, _≤_, _<_}
 use native.Mathlib.Omega.{arith}
 use Rattle.machine.specs.declared.State.{State}
+use Rattle.machine.specs.Setters.{taskAt}
 use Rattle.machine.specs.Fresh.{Inputs, freshReason, freshState, freshOf}
 use Rattle.machine.specs.FreshLaws.{accepted-inputs, fresh-accepted, fresh-valid}
 use Rattle.machine.specs.Range.{Valid}
 use Rattle.machine.specs.Turn.{turnOf, reasonNumber}
 use Rattle.machine.specs.CountLaws.{seven-of-kind-1}
 use Rattle.barrier.specs.Barrier.{Holds}
-use Rattle.barrier.specs.Moves.{keeps-all}
+use Rattle.barrier.specs.Moves.{fresh-left, keeps-all}
 use Rattle.increment.specs.Safe.{never-7}
 use Rattle.playback.specs.Playback.{triplesOf, playReason, playOf}
 use Rattle.playback.specs.PlaybackLaws.{play-accepted, play-keeps}
@@ -39,7 +40,7 @@ known-fresh : (i : Inputs) → freshReason i ≡ 0 → Known (freshOf i .state)
 known-fresh i e =
     let low = accepted-inputs i e .kind in
     subst Known (sym (fresh-accepted i e))
-    (record { kind = i .kind; low = low; inv = record { valid = fresh-valid i e; kind = refl; inv = barrierOf (i .kind) low .fresh i e refl } })
+    (record { kind = i .kind; low = low; inv = record { valid = fresh-valid i e; kind = refl; inv = barrierOf (i .kind) low .fresh i e refl; left = fresh-left i } })
 
 pub known : (s : State) → Reached s → Known s
 known s (fresh i e) = known-fresh i e
@@ -53,6 +54,10 @@ known-after s cs r = known-led s (afterAll s cs) (countedAll s cs) (leads-all s 
 -- it is in range
 pub reached-valid : (s : State) → Reached s → Valid s
 reached-valid s r = known s r .inv .valid
+
+-- 02, P6: off line 11 a task has all moves of its work left, and so it has on coming there
+pub reached-left : (s : State) → Reached s → (q : ℕ) → q < s .n → taskAt s q .line ≢ 11 → taskAt s q .left ≡ taskAt s q .work
+reached-left s r = known s r .inv .left
 
 -- 02, P4: so is the state that a play-back gives, unless it is refused; what is said of reached states holds of it
 pub played-reached : (i : Inputs) (trace : List ℕ) → playReason i trace ≡ 0 → Reached (playOf i trace .state)

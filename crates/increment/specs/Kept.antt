@@ -7,7 +7,7 @@ use lib.Dec.{eqb}
 use borrow.Author.Tests.{eqb-true, eqb-false}
 use Rattle.bitset.specs.ChoiceLaws.{by-test}
 use Rattle.lines.specs.declared.Task.{Task}
-use Rattle.lines.specs.Setters.{withLine, withAim}
+use Rattle.lines.specs.Setters.{withLine, withAim, withLeft}
 use Rattle.lines.specs.Common.{raised}
 use Rattle.lines.specs.Increment.{negated}
 use Rattle.machine.specs.declared.State.{State}
@@ -62,9 +62,9 @@ module _ {n arrivals sense c p : ℕ} {t t′ : ℕ → Task} {b : Task} (g : Ga
       }
 
 module _ {n arrivals sense c p : ℕ} {t t′ : ℕ → Task} (phase : Phase n arrivals sense c t) (h : p < n) where
-  -- 11: to 12. It threatens none.
-  line-11 : t p .line ≡ 11 → Puts t p (withLine (t p) 12) t′ → Phase n arrivals sense c t′
-  line-11 l u =
+  -- 11: to 12 in the end. It threatens none.
+  line-11 : t p .line ≡ 11 → {to left : ℕ} → 11 ≤ to → to ≤ 12 → Puts t p (withLeft (withLine (t p) to) left) t′ → Phase n arrivals sense c t′
+  line-11 l from most u =
       let (g, e) = early phase p h (λ k m a. omega arith) in
       gathering (gather-on g h u arrivals (g .few) refl (outside (omega arith) (omega arith) e))
 
@@ -151,7 +151,7 @@ module _ {n arrivals sense c p : ℕ} {t t′ : ℕ → Task} (phase : Phase n a
 pub keeps : (s : State) (p : ℕ) → Holds 1 Inv s → Able s p → Inv (viewOf (moved s p))
 keeps s p i a =
     by-line (λ e. Inv (viewOf (written (e .write) (withTask s p (e .task))))) s p (i .kind) a
-    (λ l. record { c = c; phase = line-11 phase h l puts })
+    (λ l to left from most. record { c = c; phase = line-11 phase h l from most puts })
     (λ l. record { c = c; phase = line-12 phase h l two puts })
     (λ l last. record { c = c; phase = line-13-butler phase h l last puts })
     (λ l more. record { c = c; phase = line-13-guest phase h l more puts })

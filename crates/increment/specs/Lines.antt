@@ -17,12 +17,12 @@ use Rattle.machine.specs.Setters.{taskAt}
 use Rattle.machine.specs.Turn.{effectOf}
 use Rattle.machine.specs.TurnLaws.{effect-1}
 use Rattle.barrier.specs.Barrier.{Able}
-use Rattle.barrier.specs.Lines.{Moving, no-wait, no-refusal, if-awaited, if-counted}
+use Rattle.barrier.specs.Lines.{Moving, no-wait, no-refusal, Worked, if-worked, if-awaited, if-counted}
 
 -- what holds of each line's move holds of the effect of a task that can move
 pub by-line : (P : Effect → Type 0) (s : State) (p : ℕ) → s .kind ≡ 1 → Able s p
     → (let t = taskAt s p in
-    (t .line ≡ 11 → P (moves (withLine t 12) Nothing))
+    (t .line ≡ 11 → Worked P t)
     → (t .line ≡ 12 → P (moves (withLine (withAim t (negated (s .sense))) 13) Nothing))
     → (t .line ≡ 13 → s .arrivals + 1 ≡ s .n → P (moves (withLine (raised t) 14) (Arrivals (s .arrivals + 1))))
     → (t .line ≡ 13 → s .arrivals + 1 ≢ s .n → P (moves (withLine (raised t) 16) (Arrivals (s .arrivals + 1))))
@@ -32,7 +32,7 @@ pub by-line : (P : Effect → Type 0) (s : State) (p : ℕ) → s .kind ≡ 1 �
     → P (effectOf s p))
 by-line P s p k a m11 m12 butler guest m14 m15 m16 =
     subst (Moving P) (sym (effect-1 s p k))
-    (by-increment (Moving P) (t .line) t (λ _. no-wait P t) (λ l _. m11 l) (s .n) (s .arrivals) (s .sense)
+    (by-increment (Moving P) (t .line) t (λ _. no-wait P t) (λ l. if-worked P t l (m11 l)) (s .n) (s .arrivals) (s .sense)
     (λ l _. m12 l) m13 (λ l _. m14 l) (λ l _. m15 l) (λ l. if-awaited P (eqb (s .sense) (t .aim)) t (λ b. m16 l (eqb-true (s .sense) (t .aim) b))))
     (a .1)
   where

@@ -17,6 +17,7 @@ use Rattle.machine.specs.LeastLaws.{least-le, least-attained}
 use Rattle.machine.specs.RangeLaws.{TaskRange, range}
 use Rattle.barrier.specs.Sum.{sum, sum-le, sum-const}
 use Rattle.barrier.specs.Barrier.{Able, Holds}
+use Rattle.barrier.specs.Lines.{work-moves}
 use Rattle.increment.specs.Invariant.{Stage, outside, entering, leaving, guest, Gathering, Opening, Phase, gathering, full, cleared, Inv}
 
 -- the line of a task of this barrier moves: 13 below both limits, 16 once the sense has turned, and every other line
@@ -25,7 +26,7 @@ module _ (s : State) (p : ℕ) (i : Holds 1 Inv s) (h : p < s .n) where
   moves at-13 at-16 = (
     h,
     rw (effect-1 s p (i .kind))
-        (by-increment Acts (t .line) t (λ out. absurd (omega (arith, out (mine .line-from), last))) (λ _. refl) (s .n) (s .arrivals) (s .sense) (λ _. refl)
+        (by-increment Acts (t .line) t (λ out. absurd (omega (arith, out (mine .line-from), last))) (λ _. work-moves t) (s .n) (s .arrivals) (s .sense) (λ _. refl)
         (λ l. rw (lt-leb (s .n) (s .arrivals) (at-13 l .0), lt-ltb (t .count) maxCount (at-13 l .1))) (λ _. refl) (λ _. refl)
         (λ l. rw (eq-eqb (s .sense) (t .aim) (at-16 l)))),
   )

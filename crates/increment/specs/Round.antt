@@ -1,6 +1,7 @@
 -- How far a task is in its round of five places, and where its count rises.
 use mathlib.Core.Path.{_≡_}
 use mathlib.Core.List.{List}
+use mathlib.Core.Logic.{_≢_}
 use Prim.Native.Nat.{ℕ, _+_, _*_, _<_}
 use native.Mathlib.Omega.{arith}
 use lib.Dec.{eqb}
@@ -12,7 +13,7 @@ use Rattle.machine.specs.declared.State.{State}
 use Rattle.machine.specs.Setters.{taskAt}
 use Rattle.machine.specs.Turn.{effectOf}
 use Rattle.barrier.specs.View.{View, viewOf}
-use Rattle.barrier.specs.Barrier.{Able, Holds}
+use Rattle.barrier.specs.Barrier.{Able, Holds, Leads, uncounted}
 use Rattle.increment.specs.Invariant.{Inv}
 use Rattle.increment.specs.Lines.{by-line}
 
@@ -55,14 +56,20 @@ module _ (s : State) (p : ℕ) (i : Holds 1 Inv s) (a : Able s p) where
   pub counts : effectOf s p .task .count ≡ taskAt s p .count + pick (eqb (taskAt s p .line) 13) 1 0
   counts =
       by-line (λ e. e .task .count ≡ taskAt s p .count + pick (eqb (taskAt s p .line) 13) 1 0) s p (i .kind) a
-      (λ l. rw l (omega arith)) (λ l. rw l (omega arith)) (λ l last. rw l (omega arith)) (λ l more. rw l (omega arith))
+      (λ l to left from most. rw l (omega arith)) (λ l. rw l (omega arith)) (λ l last. rw l (omega arith)) (λ l more. rw l (omega arith))
       (λ l. rw l (omega arith)) (λ l. rw l (omega arith)) (λ l _. rw l (omega arith))
 
-  -- a move takes the task on by one, and past what it skips
-  pub own : placed (effectOf s p .task) ≡ placed (taskAt s p) + 1 + skips (viewOf s) p
+  -- 12 and 13 come between the work and the rise
+  pub leads : taskAt s p .line ≢ 11 → uncounted 13 (effectOf s p .task .line) + pick (eqb (taskAt s p .line) 13) 1 0 ≡ uncounted 13 (taskAt s p .line)
+  leads off =
+      by-line (λ e. uncounted 13 (e .task .line) + pick (eqb (taskAt s p .line) 13) 1 0 ≡ uncounted 13 (taskAt s p .line)) s p (i .kind) a
+      (λ l. absurd (off l)) (λ l. rw l) (λ l last. rw l) (λ l more. rw l) (λ l. rw l) (λ l. rw l) (λ l _. rw l)
+
+  -- a move that leads on takes the task on by one, and past what it skips
+  pub own : Leads s p → placed (effectOf s p .task) ≡ placed (taskAt s p) + 1 + skips (viewOf s) p
   own =
-      by-line (λ e. placed (e .task) ≡ placed (taskAt s p) + 1 + skips (viewOf s) p) s p (i .kind) a
-      (λ l. rw l (omega arith)) (λ l. rw l (omega arith))
-      (λ l last. rw (l, eq-eqb (s .arrivals + 1) (s .n) last) (omega arith))
-      (λ l more. rw (l, ne-eqb (s .arrivals + 1) (s .n) more) (omega arith))
-      (λ l. rw l (omega arith)) (λ l. rw l (omega arith)) (λ l _. rw l (omega arith))
+      by-line (λ e. (taskAt s p .line ≡ 11 → e .task .line ≡ 12) → placed (e .task) ≡ placed (taskAt s p) + 1 + skips (viewOf s) p) s p (i .kind) a
+      (λ l to left from most on. rw (l, on l) (omega arith)) (λ l _. rw l (omega arith))
+      (λ l last _. rw (l, eq-eqb (s .arrivals + 1) (s .n) last) (omega arith))
+      (λ l more _. rw (l, ne-eqb (s .arrivals + 1) (s .n) more) (omega arith))
+      (λ l _. rw l (omega arith)) (λ l _. rw l (omega arith)) (λ l _ _. rw l (omega arith))

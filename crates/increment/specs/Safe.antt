@@ -20,6 +20,7 @@ use Rattle.machine.specs.Turn.{effectOf, turnOf, reasonNumber}
 use Rattle.machine.specs.TurnLaws.{effect-1, turn-unknown}
 use Rattle.machine.specs.CountLaws.{seven-acts}
 use Rattle.barrier.specs.Barrier.{Holds}
+use Rattle.barrier.specs.Lines.{work-moves}
 use Rattle.increment.specs.Invariant.{Inv}
 use Rattle.increment.specs.Phases.{near, early}
 
@@ -60,7 +61,7 @@ module _ (s : State) (i : Holds 1 Inv s) where
       line : p < s .n → No7 (effectOf s p)
       line h =
           rw (effect-1 s p (i .kind))
-          (by-increment No7 (t .line) t (λ _. waited) (λ _. moved) (s .n) (s .arrivals) (s .sense)
+          (by-increment No7 (t .line) t (λ _. waited) (λ _. rw (work-moves t) moved) (s .n) (s .arrivals) (s .sense)
           (λ _. moved) (at-13 h) (λ _. moved) (λ _. moved) (λ _. by-test No7 (eqb (s .sense) (t .aim)) (λ _. moved) (λ _. waited)))
 
       go : Dec (s .n ≤ p) → reasonNumber (turnOf s p .outcome) ≢ 7

@@ -1,6 +1,6 @@
 -- What the lines of the four barriers have in common.
 use mathlib.Core.Bool.{Bool}
-use Prim.Native.Nat.{ℕ, _+_}
+use Prim.Native.Nat.{ℕ, _+_, _-_}
 use lib.Dec.{eqb, ltb}
 use Rattle.bitset.specs.Choice.{pick}
 use Rattle.bitset.specs.Set.{withoutOf}
@@ -9,7 +9,7 @@ use Rattle.lines.specs.declared.Effect.{Effect}
 use Rattle.lines.specs.declared.Act.the-variants.{Moves, Waits, Refuses}
 use Rattle.lines.specs.declared.Write.{Write}
 use Rattle.lines.specs.declared.Write.the-variants.{Nothing}
-use Rattle.lines.specs.Setters.{withLine, withCount, withList, withLooked}
+use Rattle.lines.specs.Setters.{withLine, withCount, withList, withLooked, withLeft}
 
 -- "Count: 0 to 1,000,000."
 abbrev pub maxCount : ℕ
@@ -37,9 +37,13 @@ raised t = withCount t (t .count + 1)
 abbrev pub counts : Task → Effect → Effect
 counts t e = pick (ltb (t .count) maxCount) e (refuses 11 t)
 
--- "Line 11, the task's own work, is one move and leads to 12."
+-- 11, the task's own work. 02, P6: "A task stays at 11 until it has made that many moves there"; the moves left "are set back to" the work length
+-- "on leaving 11". Where both are 1 it is 01's "one move and leads to 12".
 abbrev pub work : Task → Effect
-work t = moves (withLine t 12) Nothing
+work t =
+    pick (ltb 1 (t .left))
+    (moves (withLeft t (t .left - 1)) Nothing)
+    (moves (withLeft (withLine t 12) (t .work)) Nothing)
 
 -- 13 of symmetric and tree: "if the list is empty, to" the line `exit`; "else looked-at :=" the task k that is taken, "to 14".
 abbrev pub choose : ℕ → ℕ → Task → Effect

@@ -1,7 +1,8 @@
 -- Laws of the lines: by cases over the kind and the line, and what every line does, whatever its barrier.
-use mathlib.Core.Path.{_≡_, refl}
+use mathlib.Core.Path.{_≡_, refl, ap}
 use mathlib.Core.Bool.{Bool, _||_, not}
 use mathlib.Core.List.{List}
+use mathlib.Core.Logic.{_≢_}
 use Prim.Native.Nat.{ℕ, _+_, _≤_, _<_}
 use native.Mathlib.Omega.{arith}
 use lib.Dec.{eqb, leb, ltb}
@@ -11,6 +12,7 @@ use Rattle.bitset.specs.ChoiceLaws.{by-test}
 use Rattle.lines.specs.declared.Task.{Task}
 use Rattle.lines.specs.declared.Shared.{Shared}
 use Rattle.lines.specs.declared.Effect.{Effect}
+use Rattle.lines.specs.declared.Act.the-variants.{Moves}
 use Rattle.lines.specs.declared.Write.{Write}
 use Rattle.lines.specs.Common.{maxCount, moves, waits, refuses, counts, work}
 use Rattle.lines.specs.Symmetric.{symmetric12, symmetric13, symmetric14, symmetricLine}
@@ -87,14 +89,14 @@ pub data Does (s : Shared) (t : Task) : Effect → Type 0 where
 pub does : (s : Shared) (table : List ℕ) (p : ℕ) (t seen : Task) → Does s t (effectFrom s table p t seen)
 does s table p t seen =
     by-kind D s table p t seen
-    (λ _. by-symmetric D (t .line) t (λ _. stays) (λ _. keeps refl) (s .n) (s .modulus) (seen .tag)
+    (λ _. by-symmetric D (t .line) t (λ _. stays) (λ _. worked) (s .n) (s .modulus) (seen .tag)
     (λ _. counted (λ l. raises l refl)) (λ _. either (eqb (t .list) 0) (keeps refl) (keeps refl)) (λ _. either (not (eqb (seen .tag) (t .old))) (keeps refl) stays))
-    (λ k. by-increment D (t .line) t (λ _. stays) (λ _. keeps refl) (s .n) (s .arrivals) (s .sense)
+    (λ k. by-increment D (t .line) t (λ _. stays) (λ _. worked) (s .n) (s .arrivals) (s .sense)
     (λ _. keeps refl) (λ _. either (leb (s .n) (s .arrivals)) (refused-7 k) (counted (λ l. raises l refl))) (λ _. keeps refl) (λ _. keeps refl)
     (λ _. either (eqb (s .sense) (t .aim)) (keeps refl) stays))
-    (λ _. by-ring D (t .line) t (λ _. stays) (λ _. keeps refl) (s .n) p
+    (λ _. by-ring D (t .line) t (λ _. stays) (λ _. worked) (s .n) p
     (λ _. either (eqb (t .toggle) (nz p)) (keeps refl) stays) (λ _. counted (λ l. raises l refl)) (λ _. either (not (eqb (t .toggle) (nz p))) (keeps refl) stays) (λ _. keeps refl))
-    (λ _. by-tree D (t .line) t (λ _. stays) (λ _. keeps refl) table p (seen .flag)
+    (λ _. by-tree D (t .line) t (λ _. stays) (λ _. worked) table p (seen .flag)
     (λ _. keeps refl) (λ _. either (eqb (t .list) 0) (keeps refl) (keeps refl)) (λ _. either (eqb (seen .flag) 1) (keeps refl) stays) (λ _. counted (λ l. raises l refl))
     (λ _. either (eqb p 0 || eqb (t .flag) 0) (keeps refl) stays) (λ _. keeps refl) (λ _. either (eqb (t .list) 0) (keeps refl) (keeps refl)))
     stays
@@ -105,34 +107,62 @@ does s table p t seen =
     either : (b : Bool) {x y : Effect} → D x → D y → D (pick b x y)
     either b h g = by-test D b (λ _. h) (λ _. g)
 
+    worked : D (work t)
+    worked = either (ltb 1 (t .left)) (keeps refl) (keeps refl)
+
     counted : {e : Effect} → (t .count < maxCount → D e) → D (counts t e)
     counted h =
         by-test D (ltb (t .count) maxCount) (λ l. h (ltb-true (t .count) maxCount l)) (λ l. refused-11 (ltb-false (t .count) maxCount l))
 
--- 02, P1: whatever its line does, a task keeps its start
-pub record KeepsStart (t : Task) (e : Effect) : Type 0 where
+-- Whatever its line does, a task keeps its start (02, P1) and its work length (P6). A move at 11 is own work, and no other line changes the moves left.
+pub record Kept (t : Task) (e : Effect) : Type 0 where
   pub start : e .task .start ≡ t .start
+  pub length : e .task .work ≡ t .work
+  pub left : t .line ≢ 11 → e .task .left ≡ t .left
+  pub own : t .line ≡ 11 → e .act ≡ Moves → e ≡ work t
 
-pub start-kept : (s : Shared) (table : List ℕ) (p : ℕ) (t seen : Task) → KeepsStart t (effectFrom s table p t seen)
-start-kept s table p t seen =
+pub kept : (s : Shared) (table : List ℕ) (p : ℕ) (t seen : Task) → Kept t (effectFrom s table p t seen)
+kept s table p t seen =
     by-kind K s table p t seen
-    (λ _. by-symmetric K (t .line) t (λ _. same refl) (λ _. same refl) (s .n) (s .modulus) (seen .tag)
-    (λ _. either (ltb (t .count) maxCount) (same refl) (same refl)) (λ _. either (eqb (t .list) 0) (same refl) (same refl)) (λ _. either (not (eqb (seen .tag) (t .old))) (same refl) (same refl)))
-    (λ _. by-increment K (t .line) t (λ _. same refl) (λ _. same refl) (s .n) (s .arrivals) (s .sense)
-    (λ _. same refl) (λ _. by-test K (leb (s .n) (s .arrivals)) (λ _. same refl) (λ _. either (ltb (t .count) maxCount) (same refl) (same refl))) (λ _. same refl) (λ _. same refl)
-    (λ _. either (eqb (s .sense) (t .aim)) (same refl) (same refl)))
-    (λ _. by-ring K (t .line) t (λ _. same refl) (λ _. same refl) (s .n) p
-    (λ _. either (eqb (t .toggle) (nz p)) (same refl) (same refl)) (λ _. either (ltb (t .count) maxCount) (same refl) (same refl)) (λ _. either (not (eqb (t .toggle) (nz p))) (same refl) (same refl)) (λ _. same refl))
-    (λ _. by-tree K (t .line) t (λ _. same refl) (λ _. same refl) table p (seen .flag)
-    (λ _. same refl) (λ _. either (eqb (t .list) 0) (same refl) (same refl)) (λ _. either (eqb (seen .flag) 1) (same refl) (same refl)) (λ _. either (ltb (t .count) maxCount) (same refl) (same refl))
-    (λ _. either (eqb p 0 || eqb (t .flag) 0) (same refl) (same refl)) (λ _. same refl) (λ _. either (eqb (t .list) 0) (same refl) (same refl)))
-    (same refl)
+    (λ _. by-symmetric K (t .line) t (λ _. waited) at-11 (s .n) (s .modulus) (seen .tag)
+    (λ l. either (ltb (t .count) maxCount) (off (omega arith) refl) (off (omega arith) refl)) (λ l. either (eqb (t .list) 0) (off (omega arith) refl) (off (omega arith) refl)) (λ l. either (not (eqb (seen .tag) (t .old))) (off (omega arith) refl) (off (omega arith) refl)))
+    (λ _. by-increment K (t .line) t (λ _. waited) at-11 (s .n) (s .arrivals) (s .sense)
+    (λ l. off (omega arith) refl) (λ l. by-test K (leb (s .n) (s .arrivals)) (λ _. off (omega arith) refl) (λ _. either (ltb (t .count) maxCount) (off (omega arith) refl) (off (omega arith) refl))) (λ l. off (omega arith) refl) (λ l. off (omega arith) refl)
+    (λ l. either (eqb (s .sense) (t .aim)) (off (omega arith) refl) (off (omega arith) refl)))
+    (λ _. by-ring K (t .line) t (λ _. waited) at-11 (s .n) p
+    (λ l. either (eqb (t .toggle) (nz p)) (off (omega arith) refl) (off (omega arith) refl)) (λ l. either (ltb (t .count) maxCount) (off (omega arith) refl) (off (omega arith) refl)) (λ l. either (not (eqb (t .toggle) (nz p))) (off (omega arith) refl) (off (omega arith) refl)) (λ l. off (omega arith) refl))
+    (λ _. by-tree K (t .line) t (λ _. waited) at-11 table p (seen .flag)
+    (λ l. off (omega arith) refl) (λ l. either (eqb (t .list) 0) (off (omega arith) refl) (off (omega arith) refl)) (λ l. either (eqb (seen .flag) 1) (off (omega arith) refl) (off (omega arith) refl)) (λ l. either (ltb (t .count) maxCount) (off (omega arith) refl) (off (omega arith) refl))
+    (λ l. either (eqb p 0 || eqb (t .flag) 0) (off (omega arith) refl) (off (omega arith) refl)) (λ l. off (omega arith) refl) (λ l. either (eqb (t .list) 0) (off (omega arith) refl) (off (omega arith) refl)))
+    waited
   where
     K : Effect → Type 0
-    K e = KeepsStart t e
+    K e = Kept t e
 
-    same : {e : Effect} → e .task .start ≡ t .start → K e
-    same h = record { start = h }
+    -- what is kept off 11
+    outer : Task → ℕ × ℕ × ℕ
+    outer x = (x .start, x .work, x .left)
+
+    off : {e : Effect} → t .line ≢ 11 → outer (e .task) ≡ outer t → K e
+    off ne h =
+        record {
+          start = ap (λ (x : ℕ × ℕ × ℕ). x .0) h;
+          length = ap (λ (x : ℕ × ℕ × ℕ). x .1) h;
+          left = λ _. ap (λ (x : ℕ × ℕ × ℕ). x .2) h;
+          own = λ l. absurd (ne l);
+        }
 
     either : (b : Bool) {x y : Effect} → K x → K y → K (pick b x y)
     either b h g = by-test K b (λ _. h) (λ _. g)
+
+    waited : K (waits t)
+    waited = record { start = refl; length = refl; left = λ _. refl; own = λ _ m. let z : _≡_ {A = ℕ} 0 1 = cc in absurd (omega arith) }
+
+    at-11 : t .line ≡ 11 → K (work t)
+    at-11 l =
+        record {
+          start = by-test (λ (e : Effect). e .task .start ≡ t .start) (ltb 1 (t .left)) (λ _. refl) (λ _. refl);
+          length = by-test (λ (e : Effect). e .task .work ≡ t .work) (ltb 1 (t .left)) (λ _. refl) (λ _. refl);
+          left = λ ne. absurd (ne l);
+          own = λ _ _. refl;
+        }

@@ -71,11 +71,17 @@ pub(crate) fn counts(task: Task, mut next: Task, write: Write) -> Effect
     }
 }
 
-// 11: own work.
-pub(crate) fn work(task: Task) -> Effect
+// 11: own work. One move of it less is left, and the task stays; the last one leads on, and all of them are left again.
+pub(crate) fn work(mut task: Task) -> Effect
     ensures { λ r. ⌜ r ≡ defs.work task ⌝ }
 {
-    to(task, 12)
+    if task.left > 1 {
+        task.left -= 1;
+    } else {
+        task.left = task.work;
+        task.line = 12;
+    }
+    moves(task, Write::Nothing)
 }
 
 // The least task of a list, as a byte; 64 for the empty list.

@@ -13,7 +13,8 @@ mod words;
 pub const MAX_COUNT: u32 = 1_000_000;
 
 // A task of the barrier. Which fields a kind uses is said with their ranges, in machine's specs/Range.antt; the others are 0. The order of the
-// fields leaves one gap of 4 bytes, so that the compiler keeps a task in registers: a gap of 5 would put it through memory.
+// fields is the compiler's: with one gap of 2 bytes it keeps a task in registers (a gap of 5 would put it through memory), and with the fields that
+// a line writes apart from each other it inlines every line into the run's loop, which `bench/check` looks for.
 pub struct Task {
     pub aim: u8,
     pub toggle: u8,
@@ -21,10 +22,12 @@ pub struct Task {
     pub start: u8,
     pub count: u32,
     pub list: u64,
-    pub line: u8,
-    pub tag: u8,
-    pub old: u8,
+    pub left: u8,
+    pub work: u8,
     pub looked: u8,
+    pub old: u8,
+    pub tag: u8,
+    pub line: u8,
 }
 
 // What a line may read besides tasks and parents: the kind, the number of tasks, and the words that all share.

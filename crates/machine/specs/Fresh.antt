@@ -1,4 +1,4 @@
--- The fresh state, and the reasons that refuse one (01, "The state and a turn" and reasons 2 to 6; 02, P1 and reason 12).
+-- The fresh state, and the reasons that refuse one (01, "The state and a turn" and reasons 2 to 6; 02, P1 and reason 12, P6 and reason 15).
 use mathlib.Core.Bool.{Bool, true, _&&_, _||_}
 use mathlib.Core.List.{List, [], _∷_, _++_}
 use Prim.Native.Nat.{ℕ, _-_}
@@ -9,21 +9,23 @@ use Rattle.bitset.specs.Table.{table}
 use Rattle.bitset.specs.Tasks.{isCount}
 use Rattle.parents.specs.Parents.{checkOf}
 use Rattle.lines.specs.declared.Task.{Task}
-use Rattle.lines.specs.Setters.{zeroTask, withLine, withStart}
+use Rattle.lines.specs.Setters.{zeroTask, withLine, withStart, withWork, withLeft}
 use Rattle.machine.specs.declared.State.{State}
 use Rattle.machine.specs.declared.Setup.{Setup}
 use Rattle.machine.specs.declared.Fresh.{Fresh}
 
--- what a fresh state is made from: kind, N, R, and the tables of parents and of starts
+-- what a fresh state is made from: kind, N, R, and the tables of parents, of starts and of work lengths
 pub record Inputs : Type 0 where
   pub kind : ℕ
   pub n : ℕ
   pub modulus : ℕ
   pub parents : List ℕ
   pub starts : List ℕ
+  pub works : List ℕ
 
-abbrev pub inputsOf : Setup → List ℕ → List ℕ → Inputs
-inputsOf setup parents starts = record { kind = setup .kind; n = setup .n; modulus = setup .modulus; parents = parents; starts = starts }
+abbrev pub inputsOf : Setup → List ℕ → List ℕ → List ℕ → Inputs
+inputsOf setup parents starts works =
+    record { kind = setup .kind; n = setup .n; modulus = setup .modulus; parents = parents; starts = starts; works = works }
 
 -- "0 symmetric, 1 fetch-and-increment, 2 ring, 3 tree"
 abbrev pub isKind : ℕ → Bool
@@ -49,17 +51,38 @@ startsOk kind n starts = eqb (length starts) 0 || (eqb kind 0 && eqb (length sta
 abbrev pub startsReason : ℕ → ℕ → List ℕ → ℕ
 startsReason kind n starts = pick (startsOk kind n starts) 0 12
 
+-- 02, P6: a work length is "one byte a task, 1 to 255"
+abbrev pub isWork : ℕ → Bool
+isWork x = leb 1 x && leb x 255
+
+unfoldable pub allWork : List ℕ → Bool
+allWork [] = true
+allWork (x ∷ xs) = isWork x && allWork xs
+
+-- "15 is a work table whose length is neither 0 nor N, or an entry of 0", the one byte that is no work length; for every kind
+abbrev pub worksOk : ℕ → List ℕ → Bool
+worksOk n works = eqb (length works) 0 || (eqb (length works) n && allWork works)
+
+abbrev pub worksReason : ℕ → List ℕ → ℕ
+worksReason n works = pick (worksOk n works) 0 15
+
 -- the first of two reasons that applies; a reason that doesn't is 0
 abbrev pub firstReason : ℕ → ℕ → ℕ
 firstReason a b = pick (eqb a 0) b a
 
--- "A fresh state checks 2 to 6", and 12 "follows 6": the first reason that applies, 0 if none does
+-- the reasons of the tables: 12 "follows 6", and 15 "follows 12"
+abbrev pub tablesReason : Inputs → ℕ
+tablesReason i =
+    firstReason (parentsReason (i .kind) (i .n) (i .parents))
+    (firstReason (startsReason (i .kind) (i .n) (i .starts)) (worksReason (i .n) (i .works)))
+
+-- "A fresh state checks 2 to 6", then 12 and 15: the first reason that applies, 0 if none does
 unfoldable pub freshReason : Inputs → ℕ
 freshReason i =
     pick (isKind (i .kind))
     (pick (isCount (i .n))
     (pick (modulusOk (i .kind) (i .modulus))
-    (firstReason (parentsReason (i .kind) (i .n) (i .parents)) (startsReason (i .kind) (i .n) (i .starts)))
+    (tablesReason i)
     4)
     3)
     2
@@ -68,9 +91,18 @@ freshReason i =
 abbrev pub startOf : List ℕ → ℕ → ℕ
 startOf starts q = getD starts q 0
 
--- "Each task has a line and a count, fresh 11 and 0"; "fields not named above start at 0". The task q:
+-- 02, P6: "a work table, one byte a task, 1 to 255; with no table all are 1"
+abbrev pub workOf : List ℕ → ℕ → ℕ
+workOf works q = getD works q 1
+
+-- "Each task has a line and a count, fresh 11 and 0"; "fields not named above start at 0". With a start and a work length, all of whose moves
+-- are left:
+abbrev pub taskWith : ℕ → ℕ → Task
+taskWith start work = withLeft (withWork (withStart (withLine zeroTask 11) start) work) work
+
+-- the task q
 abbrev pub freshTask : Inputs → ℕ → Task
-freshTask i q = withStart (withLine zeroTask 11) (startOf (i .starts) q)
+freshTask i q = taskWith (startOf (i .starts) q) (workOf (i .works) q)
 
 -- "Sense (fresh 1)" for kind 1, and 0 for another kind, which doesn't use it
 abbrev pub freshSense : ℕ → ℕ

@@ -1,16 +1,16 @@
 -- Laws of the fresh state: when it is refused, and that an accepted one is in range.
 use mathlib.Core.Path.{_≡_, refl, sym, ap, _∙_, subst}
-use mathlib.Core.Bool.{Bool, true, false, _&&_, _||_, and-eq-true-iff}
+use mathlib.Core.Bool.{Bool, true, false, _&&_, _||_, and-eq-true-iff, or-true}
 use mathlib.Core.List.{List, [], _∷_, map}
 use Prim.Native.Nat.{ℕ, zero, suc, _+_, _-_, _≤_, _<_}
 use native.Mathlib.Omega.{arith}
-use lib.Dec.{eqb, ltb}
-use lib.ListN.{length, getD, drop, replicate, getD-replicate, length-map, List·getD-append, List·getD-map}
+use lib.Dec.{eqb, leb, ltb}
+use lib.ListN.{length, getD, drop, replicate, getD-replicate, length-replicate, length-map, List·getD-append, List·getD-map}
 use lib.Seq.{getD-append-add, take-at, drop-at, ext-getD}
 use borrow.Author.Tests.{eq-eqb, ne-eqb, lt-ltb, ltb-true, le-leb, leb-true, eqb-true, eqb-false}
 use Rattle.bitset.specs.Choice.{pick}
 use Rattle.bitset.specs.Table.{table}
-use Rattle.bitset.specs.TableLaws.{length-table, table-at}
+use Rattle.bitset.specs.TableLaws.{length-table, table-at, table-same}
 use Rattle.bitset.specs.Tasks.{isCount}
 use Rattle.bitset.specs.TasksLaws.{Alike}
 use Rattle.bitset.specs.SetLaws.{is-count, within-bits, bit-zero}
@@ -19,7 +19,7 @@ use Rattle.parents.specs.ParentsLaws.{accepted, entries-below, check-alike}
 use Rattle.lines.specs.declared.Task.{Task}
 use Rattle.lines.specs.Setters.{zeroTask}
 use Rattle.machine.specs.Setters.{movesAt, waitsAt}
-use Rattle.machine.specs.Fresh.{Inputs, isKind, modulusOk, parentsReason, allBelow, startsReason, firstReason, freshReason, startOf, freshTask, freshTasks, padded, freshState, freshOf}
+use Rattle.machine.specs.Fresh.{Inputs, isKind, modulusOk, parentsReason, allBelow, startsReason, isWork, allWork, worksReason, firstReason, tablesReason, freshReason, startOf, workOf, freshTask, freshTasks, padded, freshState, freshOf}
 use Rattle.machine.specs.Range.{tableOf, fieldOk, listRoom, allZero, parentsOk, taskZero, Valid}
 use Rattle.bitset.specs.ChoiceLaws.{by-test}
 use Rattle.machine.specs.RangeLaws.{TaskRange, Tallies, valid, line-14, used, modulus-3}
@@ -32,6 +32,7 @@ pub record Accepted (i : Inputs) : Type 0 where
   pub modulus : modulusOk (i .kind) (i .modulus) ≡ true
   pub parents : parentsReason (i .kind) (i .n) (i .parents) ≡ 0
   pub starts : startsReason (i .kind) (i .n) (i .starts) ≡ 0
+  pub works : worksReason (i .n) (i .works) ≡ 0
 
 -- neither of two reasons applies if the first of them doesn't
 no-reason : (a b : ℕ) → firstReason a b ≡ 0 → (a ≡ 0) × (b ≡ 0)
@@ -42,15 +43,13 @@ pub accepted-inputs : (i : Inputs) → freshReason i ≡ 0 → Accepted i
 unfolding freshReason
 accepted-inputs i e = go (isKind (i .kind)) (isCount (i .n)) (modulusOk (i .kind) (i .modulus)) refl refl refl e
   where
-    tables : ℕ
-    tables = firstReason (parentsReason (i .kind) (i .n) (i .parents)) (startsReason (i .kind) (i .n) (i .starts))
-
     go : (a b c : Bool) → isKind (i .kind) ≡ a → isCount (i .n) ≡ b → modulusOk (i .kind) (i .modulus) ≡ c
-        → pick a (pick b (pick c tables 4) 3) 2 ≡ 0 → Accepted i
+        → pick a (pick b (pick c (tablesReason i) 4) 3) 2 ≡ 0 → Accepted i
     go true true true ea eb ec e =
         let n = is-count (i .n) eb in
-        let none = no-reason (parentsReason (i .kind) (i .n) (i .parents)) (startsReason (i .kind) (i .n) (i .starts)) e in
-        record { kind = leb-true (i .kind) 3 ea; some = n .0; few = n .1; modulus = ec; parents = none .0; starts = none .1 }
+        let none = no-reason (parentsReason (i .kind) (i .n) (i .parents)) _ e in
+        let rest = no-reason (startsReason (i .kind) (i .n) (i .starts)) (worksReason (i .n) (i .works)) (none .1) in
+        record { kind = leb-true (i .kind) 3 ea; some = n .0; few = n .1; modulus = ec; parents = none .0; starts = rest .0; works = rest .1 }
     go true true false ea eb ec e = absurd (omega arith)
     go true false c ea eb ec e = absurd (omega arith)
     go false b c ea eb ec e = absurd (omega arith)
@@ -58,7 +57,7 @@ accepted-inputs i e = go (isKind (i .kind)) (isCount (i .n)) (modulusOk (i .kind
 pub inputs-accepted : (i : Inputs) → Accepted i → freshReason i ≡ 0
 unfolding freshReason
 inputs-accepted i a =
-    rw (le-leb (i .kind) 3 (a .kind), le-leb 1 (i .n) (a .some), le-leb (i .n) 64 (a .few), a .modulus, a .parents) (a .starts)
+    rw (le-leb (i .kind) 3 (a .kind), le-leb 1 (i .n) (a .some), le-leb (i .n) 64 (a .few), a .modulus, a .parents, a .starts) (a .works)
 
 -- ---- an accepted one is in range
 
@@ -105,6 +104,22 @@ start-ok kind n (x ∷ xs) q some e =
     let given = starts-given kind n x xs e in
     used (eqb kind 0) n (startOf (x ∷ xs) q) (given .0) (below-at n (x ∷ xs) q some (given .1))
 
+-- the work lengths of an accepted table are 1 or more
+works-given : (n : ℕ) (works : List ℕ) → worksReason n works ≡ 0 → allWork works ≡ true
+unfolding allWork
+works-given n [] e = refl
+works-given n (x ∷ xs) e =
+    by-test (λ r. r ≡ 0 → allWork (x ∷ xs) ≡ true) (eqb (length (x ∷ xs)) n && allWork (x ∷ xs))
+    (λ ok _. and-eq-true-iff (eqb (length (x ∷ xs)) n) (allWork (x ∷ xs)) .0 ok .1)
+    (λ _ z. absurd (omega arith))
+    (rw (ne-eqb (length (x ∷ xs)) 0 (λ z. absurd (omega arith))) at e)
+
+work-at : (works : List ℕ) (q : ℕ) → allWork works ≡ true → 1 ≤ workOf works q
+unfolding allWork
+work-at [] q e = omega arith
+work-at (x ∷ xs) zero e = leb-true 1 x (and-eq-true-iff (leb 1 x) (leb x 255) .0 (and-eq-true-iff (isWork x) (allWork xs) .0 e .0) .0)
+work-at (x ∷ xs) (suc q) e = work-at xs q (and-eq-true-iff (isWork x) (allWork xs) .0 e .1)
+
 fresh-range : (i : Inputs) (q : ℕ) → Accepted i → TaskRange (freshState i) q (freshTask i q)
 fresh-range i q a =
     record {
@@ -119,6 +134,8 @@ fresh-range i q a =
       toggle = field-zero (eqb (i .kind) 2) 2 (λ _. omega arith);
       flag = field-zero (eqb (i .kind) 3) 2 (λ _. omega arith);
       start = start-ok (i .kind) (i .n) (i .starts) q (a .some) (a .starts);
+      left-from = work-at (i .works) q (works-given (i .n) (i .works) (a .works));
+      left-to = omega arith;
     }
   where
     tagged : eqb (i .kind) 0 ≡ true → 0 < i .modulus
@@ -202,9 +219,9 @@ fresh-accepted i e = rw (eq-eqb (freshReason i) 0 e)
 
 -- ---- other numbers in the tables
 
--- the inputs with another number for each entry of a table
+-- the inputs with another number for each entry of a table of tasks; work lengths are no tasks
 abbrev pub withEntries : (ℕ → ℕ) → Inputs → Inputs
-withEntries f i = record { kind = i .kind; n = i .n; modulus = i .modulus; parents = map f (i .parents); starts = map f (i .starts) }
+withEntries f i = record { kind = i .kind; n = i .n; modulus = i .modulus; parents = map f (i .parents); starts = map f (i .starts); works = i .works }
 
 -- a start of an accepted table is a task
 starts-below : (kind n : ℕ) (starts : List ℕ) (q : ℕ) → 1 ≤ n → startsReason kind n starts ≡ 0 → getD starts q 0 < n
@@ -232,14 +249,11 @@ module _ (f : ℕ → ℕ) (alike : Alike f) where
       reason : Bool → ℕ → ℕ
       reason b k = pick (isKind (i .kind)) (pick b (pick (modulusOk (i .kind) (i .modulus)) k 4) 3) 2
 
-      tables : i .n ≤ 64 → firstReason (parentsReason (i .kind) (i .n) (map f (i .parents))) (startsReason (i .kind) (i .n) (map f (i .starts)))
-          ≡ firstReason (parentsReason (i .kind) (i .n) (i .parents)) (startsReason (i .kind) (i .n) (i .starts))
+      tables : i .n ≤ 64 → tablesReason (withEntries f i) ≡ tablesReason i
       tables few =
           rw (check-alike f (i .n) (alike .zeros) (λ x q h. alike .below x q (omega arith)) (i .parents) (alike .same 0 (omega arith)), length-map (i .parents) f, length-map (i .starts) f, below-alike (i .n) (i .starts) few)
 
-      go : (b : Bool) → isCount (i .n) ≡ b
-          → reason b (firstReason (parentsReason (i .kind) (i .n) (map f (i .parents))) (startsReason (i .kind) (i .n) (map f (i .starts))))
-          ≡ reason b (firstReason (parentsReason (i .kind) (i .n) (i .parents)) (startsReason (i .kind) (i .n) (i .starts)))
+      go : (b : Bool) → isCount (i .n) ≡ b → reason b (tablesReason (withEntries f i)) ≡ reason b (tablesReason i)
       go true e = ap (reason true) (tables (is-count (i .n) e .1))
       go false e = refl
 
@@ -256,3 +270,51 @@ module _ (f : ℕ → ℕ) (alike : Alike f) where
         same-list (i .parents) (λ q l. omega (arith, parents-below (i .kind) (i .n) (i .parents) q (a .some) (a .parents) l, a .few)),
         same-list (i .starts) (λ q l. omega (arith, starts-below (i .kind) (i .n) (i .starts) q (a .some) (a .starts), a .few)),
       )
+
+-- the inputs with another number for each work length
+abbrev pub withWorks : (ℕ → ℕ) → Inputs → Inputs
+withWorks f i = record { kind = i .kind; n = i .n; modulus = i .modulus; parents = i .parents; starts = i .starts; works = map f (i .works) }
+
+-- a number that is a work length stands for itself, and one that is none for none
+module _ (f : ℕ → ℕ) (alike : (x : ℕ) → isWork (f x) ≡ isWork x) where
+  works-alike : (xs : List ℕ) → allWork (map f xs) ≡ allWork xs
+  unfolding allWork
+  works-alike [] = refl
+  works-alike (x ∷ xs) = rw (alike x, works-alike xs)
+
+  pub works-reason : (i : Inputs) → freshReason (withWorks f i) ≡ freshReason i
+  unfolding freshReason
+  works-reason i = rw (length-map (i .works) f, works-alike (i .works))
+
+  own-works : ((x : ℕ) → isWork x ≡ true → f x ≡ x) → (xs : List ℕ) → allWork xs ≡ true → map f xs ≡ xs
+  unfolding allWork
+  own-works same [] e = refl
+  own-works same (x ∷ xs) e = let both = and-eq-true-iff (isWork x) (allWork xs) .0 e in rw (same x (both .0), own-works same xs (both .1))
+
+  pub works-same : ((x : ℕ) → isWork x ≡ true → f x ≡ x) → (i : Inputs) → freshReason i ≡ 0 → withWorks f i ≡ i
+  works-same same i e = rw (own-works same (i .works) (works-given (i .n) (i .works) (accepted-inputs i e .works)))
+
+-- ---- a work table of ones
+
+-- the inputs with this work table
+abbrev pub withTable : Inputs → List ℕ → Inputs
+withTable i works = record { kind = i .kind; n = i .n; modulus = i .modulus; parents = i .parents; starts = i .starts; works = works }
+
+ones-work : (n : ℕ) → allWork (replicate n 1) ≡ true
+unfolding allWork
+ones-work zero = refl
+ones-work (suc n) = ones-work n
+
+one-at : (n q : ℕ) → workOf (replicate n 1) q ≡ 1
+one-at zero q = refl
+one-at (suc n) zero = refl
+one-at (suc n) (suc q) = one-at n q
+
+ones-reason : (n : ℕ) → worksReason n (replicate n 1) ≡ 0
+ones-reason n = rw (length-replicate {A = ℕ} n 1, eq-eqb n n refl, ones-work n, or-true (eqb n 0))
+
+-- 02, P6: "with no table all are 1": a table of ones is answered as none is
+pub ones-fresh : (i : Inputs) → freshOf (withTable i (replicate (i .n) 1)) ≡ freshOf (withTable i [])
+unfolding freshOf freshReason
+ones-fresh i =
+    rw (ones-reason (i .n), table-same (i .n) (freshTask (withTable i (replicate (i .n) 1))) (freshTask (withTable i [])) (λ q _. rw (one-at (i .n) q)))

@@ -166,7 +166,10 @@ module _ (s : State) (p : ℕ) (r : InRange s) (h : p < s .n) where
   to-line l a b = let r = tr in search
 
   good-work : GoodEffect s p (work (taskAt s p))
-  good-work = (to-line 12 (omega arith) (omega (arith, line-14 (s .kind) (r .kind))), tt)
+  good-work =
+      let l14 = line-14 (s .kind) (r .kind) in
+      let o = tr in
+      by-test (GoodEffect s p) (ltb 1 (taskAt s p .left)) (λ more. let m = ltb-true 1 (taskAt s p .left) more in (search arith, tt)) (λ _. (search arith, tt))
 
   good-choose : (exit k : ℕ) → 11 ≤ exit → exit ≤ lastLine (s .kind) → eqb (s .kind) 0 || eqb (s .kind) 3 ≡ true
       → (taskAt s p .list ≢ 0 → bit (taskAt s p .list) k ≡ 1) → GoodEffect s p (choose exit k (taskAt s p))

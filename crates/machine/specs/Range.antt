@@ -32,8 +32,8 @@ fieldOk used bound x = pick used (ltb x bound) (eqb x 0)
 abbrev pub listRoom : State → ℕ → ℕ
 listRoom s q = pick (eqb (s .kind) 0) (allOf (s .n)) (pick (eqb (s .kind) 3) (childrenOf (tableOf s) q) 0)
 
--- "Tag and old below R. Looked-at below N. .. aim, toggle and flag 0 or 1." 02, P1: "a start is below N, and 0 for other kinds." The task
--- t at q:
+-- "Tag and old below R. Looked-at below N. .. aim, toggle and flag 0 or 1." 02, P1: "a start is below N, and 0 for other kinds." 02, P6: "the moves
+-- left .. lie between 1 and the length", whatever the line; so the length is 1 or more, and as a byte at most 255. The task t at q:
 unfoldable pub taskOk : State → ℕ → Task → Bool
 taskOk s q t =
     leb 11 (t .line) && leb (t .line) (lastLine (s .kind))
@@ -46,12 +46,14 @@ taskOk s q t =
     && fieldOk (eqb (s .kind) 2) 2 (t .toggle)
     && fieldOk (eqb (s .kind) 3) 2 (t .flag)
     && fieldOk (eqb (s .kind) 0) (s .n) (t .start)
+    && leb 1 (t .left)
+    && leb (t .left) (t .work)
 
 -- "every field of a task from N on, is 0"
 unfoldable pub taskZero : Task → Bool
 taskZero t =
     eqb (t .line) 0 && eqb (t .count) 0 && eqb (t .tag) 0 && eqb (t .old) 0 && eqb (t .list) 0 && eqb (t .looked) 0
-    && eqb (t .aim) 0 && eqb (t .toggle) 0 && eqb (t .flag) 0 && eqb (t .start) 0
+    && eqb (t .aim) 0 && eqb (t .toggle) 0 && eqb (t .flag) 0 && eqb (t .start) 0 && eqb (t .work) 0 && eqb (t .left) 0
 
 -- 02, P3: the tallies are "at most 4,000,000,000 each"; those of a task from N on are 0. A tally of task q:
 abbrev pub tallyOk : ℕ → ℕ → ℕ → Bool

@@ -36,6 +36,8 @@ pub record TaskRange (s : State) (q : ℕ) (t : Task) : Type 0 where
   pub toggle : fieldOk (eqb (s .kind) 2) 2 (t .toggle) ≡ true
   pub flag : fieldOk (eqb (s .kind) 3) 2 (t .flag) ≡ true
   pub start : fieldOk (eqb (s .kind) 0) (s .n) (t .start) ≡ true
+  pub left-from : 1 ≤ t .left
+  pub left-to : t .left ≤ t .work
 
 -- what is tested of the tallies: each is at most its limit, and 0 from N on
 pub record Tallies (n : ℕ) (tallies : List ℕ) : Type 0 where
@@ -59,7 +61,9 @@ pub record InRange (s : State) : Type 0 where
 task-range : (s : State) (q : ℕ) (t : Task) → taskOk s q t ≡ true → TaskRange s q t
 unfolding taskOk
 task-range s q t e =
-    let e10 = and-eq-true-iff _ _ .0 e in
+    let e12 = and-eq-true-iff _ _ .0 e in
+    let e11 = and-eq-true-iff _ _ .0 (e12 .0) in
+    let e10 = and-eq-true-iff _ _ .0 (e11 .0) in
     let e9 = and-eq-true-iff _ _ .0 (e10 .0) in
     let e8 = and-eq-true-iff _ _ .0 (e9 .0) in
     let e7 = and-eq-true-iff _ _ .0 (e8 .0) in
@@ -81,6 +85,8 @@ task-range s q t e =
       toggle = e8 .1;
       flag = e9 .1;
       start = e10 .1;
+      left-from = leb-true 1 (t .left) (e11 .1);
+      left-to = leb-true (t .left) (t .work) (e12 .1);
     }
 
 range-task : (s : State) (q : ℕ) (t : Task) → TaskRange s q t → taskOk s q t ≡ true
@@ -98,6 +104,8 @@ range-task s q t r =
       r .toggle,
       r .flag,
       r .start,
+      le-leb 1 (t .left) (r .left-from),
+      le-leb (t .left) (t .work) (r .left-to),
     )
 
 tasks-at : (s : State) (m q : ℕ) → tasksOk s m ≡ true → q < m → eachOk s q ≡ true

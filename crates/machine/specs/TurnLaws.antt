@@ -26,7 +26,7 @@ use Rattle.lines.specs.Ring.{ringLine}
 use Rattle.lines.specs.Tree.{treeLine}
 use Rattle.lines.specs.Rule.{effectFrom}
 use Rattle.lines.specs.Words.{writes, arrivalsAfter, senseAfter, placeOf, taskAfter}
-use Rattle.lines.specs.LineLaws.{Does, keeps, raises, stays, refused-7, refused-11, does, start-kept}
+use Rattle.lines.specs.LineLaws.{Does, keeps, raises, stays, refused-7, refused-11, does, Kept, kept}
 use Rattle.machine.specs.declared.State.{State}
 use Rattle.machine.specs.declared.Move.{Move}
 use Rattle.machine.specs.declared.Move.the-variants.{Moved, Waited}
@@ -430,21 +430,26 @@ module _ {A : Type 0} (f : Task → A) where
     pub other-field : (w : Write) (s : State) (p q : ℕ) (t : Task) → q ≢ p → f (taskAt (written w (withTask s p t)) q) ≡ f (taskAt s q)
     other-field w s p q t ne = written-field w (withTask s p t) q ∙ ap f (put-other s p q t ne)
 
--- ---- a task's start
+-- ---- what a task keeps
 
-start-applied : (o : Outcome) (s : State) (p q : ℕ) (t : Task) (w : Write) → t .start ≡ taskAt s p .start → taskAt (applied o s p t w) q .start ≡ taskAt s q .start
-start-applied (Made (Moved c)) s p q t w e = written-field start (λ x y. (refl, refl)) w (withTask s p t) q ∙ put-field start s p q t e
-  where
-    start : Task → ℕ
-    start x = x .start
-start-applied (Made Waited) s p q t w e = refl
-start-applied (Refused k) s p q t w e = refl
+-- a field that is neither toggle nor flag, and that the task stored has as the own task had it
+kept-applied : (f : Task → ℕ) → ((t : Task) (x : ℕ) → (f (withToggle t x) ≡ f t) × (f (withFlag t x) ≡ f t)) → (o : Outcome) (s : State) (p q : ℕ) (t : Task) (w : Write)
+    → f t ≡ f (taskAt s p) → f (taskAt (applied o s p t w) q) ≡ f (taskAt s q)
+kept-applied f apart (Made (Moved c)) s p q t w e = written-field f apart w (withTask s p t) q ∙ put-field f s p q t e
+kept-applied f apart (Made Waited) s p q t w e = refl
+kept-applied f apart (Refused k) s p q t w e = refl
+
+-- what a line keeps of its task, and what it does at 11
+pub effect-keeps : (s : State) (p : ℕ) → Kept (taskAt s p) (effectOf s p)
+unfolding effectOf
+effect-keeps s p = kept (sharedOf s) (tableOf s) p (taskAt s p) (taskAt s (taskAt s p .looked))
 
 -- 02, P1: each task keeps its start, whatever turn is made
 pub turn-start : (s : State) (p q : ℕ) → taskAt (turnOf s p .state) q .start ≡ taskAt s q .start
-unfolding effectOf
 turn-start s p q =
-    rw (turn-applied s p) (start-applied (turnOf s p .outcome) s p q (effectOf s p .task) (effectOf s p .write) kept)
-  where
-    kept : effectOf s p .task .start ≡ taskAt s p .start
-    kept = start-kept (sharedOf s) (tableOf s) p (taskAt s p) (taskAt s (taskAt s p .looked)) .start
+    rw (turn-applied s p) (kept-applied (λ t. t .start) (λ t x. (refl, refl)) (turnOf s p .outcome) s p q (effectOf s p .task) (effectOf s p .write) (effect-keeps s p .start))
+
+-- 02, P6: and its work length
+pub turn-work : (s : State) (p q : ℕ) → taskAt (turnOf s p .state) q .work ≡ taskAt s q .work
+turn-work s p q =
+    rw (turn-applied s p) (kept-applied (λ t. t .work) (λ t x. (refl, refl)) (turnOf s p .outcome) s p q (effectOf s p .task) (effectOf s p .write) (effect-keeps s p .length))

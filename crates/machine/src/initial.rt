@@ -8,7 +8,7 @@ use parents::Checked;
 ghost use mathlib.Core.Path.{_≡_};
 ghost use Prim.Native.Nat.{_≤_};
 ghost use lib.ListN.{length, replicate};
-ghost use Rattle.lines.specs.Setters.{zeroTask, withLine, withStart};
+ghost use Rattle.lines.specs.Setters.{zeroTask};
 ghost use Rattle.machine.specs.Fresh as defs;
 
 // 0, or the reason that refuses the table of parents: 5 or 6.
@@ -31,6 +31,27 @@ fn starts_reason(kind: usize, n: usize, starts: &[u8]) -> u8
 {
     let whole = (kind == 0) & (starts.len() == n) & range::all_below(n, starts);
     if (starts.len() == 0) | whole { 0 } else { 12 }
+}
+
+// Whether every entry of a table is a work length. Of the bytes 0 alone is none.
+fn all_work(table: &[u8]) -> bool
+    ensures { λ r. ⌜ r ≡ defs.allWork (now (table .entry)) ⌝ }
+{
+    let mut ok = true;
+    let mut i = 0;
+    while i < table.len() {
+        ok = ok & (table[i] != 0);
+        i += 1;
+    }
+    ok
+}
+
+// 0, or the reason that refuses the table of work lengths: 15.
+fn works_reason(n: usize, works: &[u8]) -> u8
+    ensures { λ r. ⌜ r ≡ defs.worksReason n (now (works .entry)) ⌝ }
+{
+    let whole = (works.len() == n) & all_work(works);
+    if (works.len() == 0) | whole { 0 } else { 15 }
 }
 
 // The first of two reasons that applies; a reason that doesn't is 0.
@@ -62,6 +83,8 @@ fn zero_task() -> Task
         tag: 0,
         old: 0,
         looked: 0,
+        work: 0,
+        left: 0,
     }
 }
 
@@ -87,25 +110,34 @@ fn start_of(starts: &[u8], q: usize) -> u8
     if q < starts.len() { starts[q] } else { 0 }
 }
 
-// A fresh task: at line 11, with its start, all else 0.
-fn fresh_task(start: u8) -> Task
-    ensures { λ r. ⌜ r ≡ withStart (withLine zeroTask 11) start ⌝ }
+// The work length of a task; 1 past the table.
+fn work_of(works: &[u8], q: usize) -> u8
+    ensures { λ r. ⌜ r ≡ defs.workOf (now (works .entry)) q ⌝ }
+{
+    if q < works.len() { works[q] } else { 1 }
+}
+
+// A fresh task: at line 11, with its start and all moves of its work left, all else 0.
+fn fresh_task(start: u8, work: u8) -> Task
+    ensures { λ r. ⌜ r ≡ defs.taskWith start work ⌝ }
 {
     let mut fresh = zero_task();
     fresh.line = 11;
     fresh.start = start;
+    fresh.work = work;
+    fresh.left = work;
     fresh
 }
 
 // The tasks of a fresh state: n fresh ones, and all zero from n on.
-fn fresh_tasks(n: usize, starts: &[u8]) -> [Task; 64]
+fn fresh_tasks(n: usize, starts: &[u8], works: &[u8]) -> [Task; 64]
     requires { ⌜ n ≤ 64 ⌝ }
-    ensures { λ r. ⌜ r ≡ defs.freshTasks n (λ q. withStart (withLine zeroTask 11) (defs.startOf (now (starts .entry)) q)) ⌝ }
+    ensures { λ r. ⌜ r ≡ defs.freshTasks n (λ q. defs.taskWith (defs.startOf (now (starts .entry)) q) (defs.workOf (now (works .entry)) q)) ⌝ }
 {
     let mut all = zero_tasks();
     let mut q = 0;
     while q < n {
-        all[q] = fresh_task(start_of(starts, q));
+        all[q] = fresh_task(start_of(starts, q), work_of(works, q));
         q += 1;
     }
     all
@@ -148,8 +180,8 @@ impl State {
 
 impl Setup {
     // 0, or the first reason that applies.
-    fn reason(self, parents: &[u8], starts: &[u8]) -> u8
-        ensures { λ r. ⌜ r ≡ defs.freshReason (defs.inputsOf self (now (parents .entry)) (now (starts .entry))) ⌝ }
+    fn reason(self, parents: &[u8], starts: &[u8], works: &[u8]) -> u8
+        ensures { λ r. ⌜ r ≡ defs.freshReason (defs.inputsOf self (now (parents .entry)) (now (starts .entry)) (now (works .entry))) ⌝ }
     {
         if !range::is_kind(self.kind) {
             return 2;
@@ -162,14 +194,15 @@ impl Setup {
         }
         let of_parents = parents_reason(self.kind, self.n, parents);
         let of_starts = starts_reason(self.kind, self.n, starts);
-        first_reason(of_parents, of_starts)
+        let of_works = works_reason(self.n, works);
+        first_reason(of_parents, first_reason(of_starts, of_works))
     }
 
-    // The fresh state; all zero where it is refused. A table of length 0 gives every task the start 0.
-    pub fn fresh(self, parents: &[u8], starts: &[u8]) -> Fresh
-        ensures { λ r. ⌜ r ≡ defs.freshOf (defs.inputsOf self (now (parents .entry)) (now (starts .entry))) ⌝ }
+    // The fresh state; all zero where it is refused. A table of length 0 gives every task the start 0, or the work length 1.
+    pub fn fresh(self, parents: &[u8], starts: &[u8], works: &[u8]) -> Fresh
+        ensures { λ r. ⌜ r ≡ defs.freshOf (defs.inputsOf self (now (parents .entry)) (now (starts .entry)) (now (works .entry))) ⌝ }
     {
-        let reason = self.reason(parents, starts);
+        let reason = self.reason(parents, starts, works);
         if reason != 0 {
             return Fresh {
                 state: State::zero(),
@@ -177,7 +210,7 @@ impl Setup {
             };
         }
         let table = padded(parents);
-        let tasks = fresh_tasks(self.n, starts);
+        let tasks = fresh_tasks(self.n, starts, works);
         let state = State {
             kind: self.kind as u8,
             n: self.n as u8,

@@ -70,6 +70,8 @@ fn task_zero(task: Task) -> bool
         & (task.toggle == 0)
         & (task.flag == 0)
         & (task.start == 0)
+        & (task.work == 0)
+        & (task.left == 0)
 }
 
 // Whether a tally of task q is as it must be: at most its limit below n, and 0 from n on.
@@ -142,6 +144,8 @@ impl State {
             & field_ok(kind == 2, 2, task.toggle)
             & field_ok(kind == 3, 2, task.flag)
             & field_ok(kind == 0, n, task.start)
+            & (1 <= task.left)
+            & (task.left <= task.work)
     }
 
     // Whether the task at q is as it must be there: in range below N, and all zero from N on.

@@ -150,10 +150,10 @@ pub fn refused(reason: u8) -> Played
 }
 
 // Plays a trace from the fresh state of a setup and its tables.
-pub fn play(setup: Setup, parents: &[u8], starts: &[u8], trace: &[u8]) -> Played
-    ensures { λ r. ⌜ r ≡ playOf (inputsOf setup (now (parents .entry)) (now (starts .entry))) (now (trace .entry)) ⌝ }
+pub fn play(setup: Setup, parents: &[u8], starts: &[u8], works: &[u8], trace: &[u8]) -> Played
+    ensures { λ r. ⌜ r ≡ playOf (inputsOf setup (now (parents .entry)) (now (starts .entry)) (now (works .entry))) (now (trace .entry)) ⌝ }
 {
-    let fresh = setup.fresh(parents, starts);
+    let fresh = setup.fresh(parents, starts, works);
     let reason = fresh.reason;
     if reason != 0 {
         return refused(reason);

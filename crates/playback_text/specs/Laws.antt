@@ -1,11 +1,14 @@
 -- Laws of play-back from a setup text: what its numbers say, that their bytes say the same, and that what is printed fits.
 use mathlib.Core.Path.{_≡_, refl, sym, ap, _∙_}
+use mathlib.Core.Bool.{true, false, and-eq-true-iff, and-false}
 use mathlib.Core.List.{List, [], _∷_}
 use mathlib.Core.Option.{Option, none, some}
 use Prim.Native.Nat.{ℕ, _+_, _*_, _≤_, _<_}
-use native.Mathlib.Decide.{ℕ-discrete}
+use native.Mathlib.Decide.{ℕ-discrete, decLe}
 use native.Mathlib.Omega.{arith}
+use lib.Dec.{leb}
 use lib.ListN.{length, drop, getD, length-append}
+use borrow.Author.Tests.{le-leb, lt-leb}
 use Rattle.text.specs.Numbers.{low}
 use Rattle.text.specs.NumbersLaws.{low-alike}
 use Rattle.text.specs.Decimal.{refusedWord}
@@ -14,8 +17,8 @@ use Rattle.machine.specs.declared.State.{State}
 use Rattle.machine.specs.declared.Outcome.{Outcome}
 use Rattle.machine.specs.declared.Outcome.the-variants as outcome
 use Rattle.machine.specs.Setters.{taskAt}
-use Rattle.machine.specs.Fresh.{Inputs, freshReason}
-use Rattle.machine.specs.FreshLaws.{withEntries, entries-reason, entries-same}
+use Rattle.machine.specs.Fresh.{Inputs, isWork, freshReason}
+use Rattle.machine.specs.FreshLaws.{withEntries, entries-reason, entries-same, withWorks, works-reason, works-same}
 use Rattle.machine.specs.Turn.{turnOf, moveNumber}
 use Rattle.playback.specs.declared.Verdict.{Verdict}
 use Rattle.playback.specs.declared.Verdict.the-variants as verdict
@@ -25,7 +28,7 @@ use Rattle.playback.specs.PlaybackLaws.{reason-fresh, play-refused}
 use Rattle.playback.specs.StepsLaws.{length-triples}
 use Rattle.playback.specs.Claims.{plays-first}
 use Rattle.playback_text.specs.Setup.{inputsIn, setupIn}
-use Rattle.playback_text.specs.Steps.{Within}
+use Rattle.playback_text.specs.Steps.{lengthByte, Within}
 use Rattle.playback_text.specs.Answer.{playIn, differsWord, countedLine, verdictLine, turnLine, toldLine, linesOf}
 
 -- ---- the numbers of a setup
@@ -50,20 +53,34 @@ fewer (a ∷ b ∷ c ∷ d ∷ e ∷ f ∷ ns) h = absurd (omega arith)
 
 -- ---- their bytes
 
--- the bytes of the tables are played as the tables are
-pub low-play : (i : Inputs) (trace : List ℕ) → playOf (withEntries low i) trace ≡ playOf i trace
-low-play i trace = go (ℕ-discrete (freshReason i) 0)
+-- inputs that are refused alike, and the same where they are accepted, are played alike
+alike-play : (i j : Inputs) (trace : List ℕ) → freshReason j ≡ freshReason i → (freshReason i ≡ 0 → j ≡ i) → playOf j trace ≡ playOf i trace
+alike-play i j trace reason same = go (ℕ-discrete (freshReason i) 0)
   where
-    reason : freshReason (withEntries low i) ≡ freshReason i
-    reason = entries-reason low low-alike i
-
-    go : Dec (freshReason i ≡ 0) → playOf (withEntries low i) trace ≡ playOf i trace
-    go (yes e) = ap (λ (j : Inputs). playOf j trace) (entries-same low low-alike i e)
+    go : Dec (freshReason i ≡ 0) → playOf j trace ≡ playOf i trace
+    go (yes e) = ap (λ (k : Inputs). playOf k trace) (same e)
     go (no ne) =
         let first = reason-fresh i trace ne in
-        let low-first = reason-fresh (withEntries low i) trace (λ z. ne (sym reason ∙ z)) in
-        play-refused (withEntries low i) trace (λ z. ne (sym reason ∙ sym low-first ∙ z)) ∙ ap refusedPlay (low-first ∙ reason ∙ sym first)
+        let other = reason-fresh j trace (λ z. ne (sym reason ∙ z)) in
+        play-refused j trace (λ z. ne (sym reason ∙ sym other ∙ z)) ∙ ap refusedPlay (other ∙ reason ∙ sym first)
         ∙ sym (play-refused i trace (λ z. ne (sym first ∙ z)))
+
+-- a byte that stands for a number is a work length if that is one
+length-alike : (x : ℕ) → isWork (lengthByte x) ≡ isWork x
+length-alike x = go (decLe x 255)
+  where
+    go : Dec (x ≤ 255) → isWork (lengthByte x) ≡ isWork x
+    go (yes l) = let same : lengthByte x ≡ x = rw (le-leb x 255 l) in ap isWork same
+    go (no l) = let out : leb x 255 ≡ false = lt-leb x 255 (omega arith) in rw out (sym (and-false (leb 1 x)))
+
+length-same : (x : ℕ) → isWork x ≡ true → lengthByte x ≡ x
+length-same x e = rw (and-eq-true-iff (leb 1 x) (leb x 255) .0 e .1)
+
+-- the bytes of the tables are played as the tables are
+pub byte-play : (i : Inputs) (trace : List ℕ) → playOf (withWorks lengthByte (withEntries low i)) trace ≡ playOf i trace
+byte-play i trace =
+    alike-play (withEntries low i) (withWorks lengthByte (withEntries low i)) trace (works-reason lengthByte length-alike (withEntries low i)) (works-same lengthByte length-alike length-same (withEntries low i))
+    ∙ alike-play i (withEntries low i) trace (entries-reason low low-alike i) (entries-same low low-alike i)
 
 -- ---- what is printed fits
 

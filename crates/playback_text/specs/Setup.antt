@@ -1,5 +1,4 @@
 -- From a setup text to what a fresh state is made from: kind, N, R, the lengths of the tables, and their entries.
-use mathlib.Core.Bool.{_&&_}
 use mathlib.Core.List.{List, [], _∷_}
 use mathlib.Core.Option.{Option, none, some}
 use Prim.Native.Nat.{ℕ, _+_}
@@ -9,12 +8,12 @@ use Rattle.bitset.specs.Choice.{pick}
 use Rattle.text.specs.Numbers.{numbersOf}
 use Rattle.machine.specs.Fresh.{Inputs, inputsOf}
 
--- The entries of the parents and then those of the starts, neither more nor fewer than the two lengths say. No table of work lengths is taken
--- yet, so that its length is 0.
+-- The entries of the parents, those of the starts and then those of the work lengths, neither more nor fewer than the three lengths say. A number
+-- that no byte holds is a parent, a start or a work length that its table's check refuses.
 abbrev pub inputsIn : ℕ → ℕ → ℕ → ℕ → ℕ → ℕ → List ℕ → Option Inputs
-inputsIn kind n modulus parents starts work entries =
-    pick (eqb work 0 && eqb (length entries) (parents + starts))
-    (some (inputsOf (record { kind = kind; n = n; modulus = modulus }) (take parents entries) (drop parents entries)))
+inputsIn kind n modulus parents starts works entries =
+    pick (eqb (length entries) (parents + starts + works))
+    (some (inputsOf (record { kind = kind; n = n; modulus = modulus }) (take parents entries) (take starts (drop parents entries)) (drop (parents + starts) entries)))
     none
 
 -- six numbers stand before the entries
@@ -25,7 +24,7 @@ setupIn (kind ∷ n ∷ []) = none
 setupIn (kind ∷ n ∷ modulus ∷ []) = none
 setupIn (kind ∷ n ∷ modulus ∷ parents ∷ []) = none
 setupIn (kind ∷ n ∷ modulus ∷ parents ∷ starts ∷ []) = none
-setupIn (kind ∷ n ∷ modulus ∷ parents ∷ starts ∷ work ∷ entries) = inputsIn kind n modulus parents starts work entries
+setupIn (kind ∷ n ∷ modulus ∷ parents ∷ starts ∷ works ∷ entries) = inputsIn kind n modulus parents starts works entries
 
 abbrev pub setupOption : Option (List ℕ) → Option Inputs
 setupOption none = none

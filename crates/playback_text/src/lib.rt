@@ -8,8 +8,10 @@ use playback::Verdict;
 use text::print;
 use text::read::Found;
 ghost use mathlib.Core.Path.{_≡_};
+ghost use mathlib.Core.List.{map};
 ghost use Prim.Native.Nat.{_≤_, _<_};
 ghost use lib.ListN.{length, getD, take, drop};
+ghost use Rattle.text.specs.Numbers.{over};
 ghost use Rattle.text.specs.Page.{Prints};
 ghost use Rattle.machine.specs.Setters.{taskAt};
 ghost use Rattle.machine.specs.Fresh.{inputsOf};
@@ -17,7 +19,7 @@ ghost use Rattle.machine.specs.Turn.{turnOf};
 ghost use Rattle.playback.specs.Playback.{playOf};
 ghost use Rattle.playback_text.specs.Setup.{setupIn};
 ghost use Rattle.playback_text.specs.Answer as defs;
-ghost use Rattle.playback_text.specs.Steps.{Within};
+ghost use Rattle.playback_text.specs.Steps.{lengthByte, Within};
 
 // What is printed, with zeros after it: the bytes of the verdict's line, and those of both lines.
 pub struct Printed {
@@ -26,12 +28,29 @@ pub struct Printed {
     pub len: usize,
 }
 
-// Plays a trace from the tables one after the other: so many parents, and then the starts.
-fn play_tables(setup: Setup, tables: &[u8], parents: usize, trace: &[u8]) -> Played
+// Plays a trace from the work lengths, and from the other tables one after the other: so many parents, and then the starts.
+fn play_tables(setup: Setup, tables: &[u8], parents: usize, works: &[u8], trace: &[u8]) -> Played
     requires { ⌜ parents ≤ length (now tables) ⌝ }
-    ensures { λ r. ⌜ r ≡ playOf (inputsOf setup (take parents (now (tables .entry))) (drop parents (now (tables .entry)))) (now (trace .entry)) ⌝ }
+    ensures { λ r. ⌜ r ≡ playOf (inputsOf setup (take parents (now (tables .entry))) (drop parents (now (tables .entry))) (now (works .entry))) (now (trace .entry)) ⌝ }
 {
-    playback::play(setup, &tables[..parents], &tables[parents..], trace)
+    playback::play(setup, &tables[..parents], &tables[parents..], works, trace)
+}
+
+// Writes each work length as a byte to the first places of the buffer; a number that no byte holds is none, and becomes 0, which is none either.
+fn lengths(numbers: &[u32], buffer: &mut [u8])
+    requires { ⌜ length (now numbers) ≤ length (now buffer) ⌝ }
+    ensures { λ r. ⌜ now (buffer .exit) ≡ over (map lengthByte (now (numbers .entry))) (now (buffer .entry)) ⌝ }
+{
+    let mut i = 0;
+    while i < numbers.len() {
+        let x = numbers[i];
+        if x <= 255 {
+            buffer[i] = x as u8;
+        } else {
+            buffer[i] = 0;
+        }
+        i += 1;
+    }
 }
 
 // Plays a trace from the numbers of a setup, of which there are six at least.
@@ -47,14 +66,17 @@ fn play_numbers(numbers: &[u32], trace: &[u8]) -> Played
     };
     let parents = numbers[3] as usize;
     let starts = numbers[4] as usize;
+    let works = numbers[5] as usize;
     let count = numbers.len() - 6;
-    let whole = (numbers[5] == 0) & (count == parents + starts);
-    if !whole {
+    let tables = parents + starts;
+    if count != tables + works {
         return playback::refused(1);
     }
     let mut bytes = [0u8; 32768];
-    text::read::bytes(&numbers[6..], &mut bytes);
-    play_tables(setup, &bytes[..count], parents, trace)
+    text::read::bytes(&numbers[6..6 + tables], &mut bytes);
+    let mut work = [0u8; 32768];
+    lengths(&numbers[6 + tables..], &mut work);
+    play_tables(setup, &bytes[..tables], parents, &work[..works], trace)
 }
 
 // Plays a trace from a setup text.

@@ -7,7 +7,7 @@ use native.Mathlib.Omega.{arith}
 use Rattle.lines.specs.declared.Task.{Task}
 use Rattle.lines.specs.declared.Effect.{Effect}
 use Rattle.lines.specs.declared.Write.the-variants.{Nothing, Toggle}
-use Rattle.lines.specs.Setters.{withLine}
+use Rattle.lines.specs.Setters.{withLine, withLeft}
 use Rattle.lines.specs.Common.{moves, raised}
 use Rattle.lines.specs.Ring.{nz, nextTask}
 use Rattle.machine.specs.declared.State.{State}
@@ -17,6 +17,7 @@ use Rattle.machine.specs.Turn.{written}
 use Rattle.machine.specs.FreshLaws.{accepted-inputs, fresh-at}
 use Rattle.barrier.specs.View.{viewOf}
 use Rattle.barrier.specs.Barrier.{Able, moved, Holds}
+use Rattle.barrier.specs.Lines.{Worked}
 use Rattle.barrier.specs.Puts.{at-task, stored}
 use Rattle.ring.specs.Invariant.{Seen, Inv}
 use Rattle.ring.specs.Lines.{by-line}
@@ -62,9 +63,9 @@ module _ (s : State) (p : ℕ) (i : Holds 2 Inv s) (h : p < s .n) where
         seen = λ q l. at-task (Seen (s .n) loc c q) (stored s p b (i .valid) h) q (λ e. rw e own) (λ ne. i .inv .seen q l);
       }
 
-  -- 11, the own work: 12 is in every stage that has 11 (Iq2)
-  line-11 : taskAt s p .line ≡ 11 → After s p (moves (withLine (taskAt s p) 12) Nothing)
-  line-11 e = keep (withLine (taskAt s p) 12) (re-seen (i .inv .seen p h) (omega arith))
+  -- 11, the own work: 11 and 12 are in every stage that has 11 (Iq2)
+  line-11 : taskAt s p .line ≡ 11 → Worked (After s p) (taskAt s p)
+  line-11 e to left from most = keep (withLeft (withLine (taskAt s p) to) left) (re-seen (i .inv .seen p h) (omega arith))
 
   -- 12 awaits toggle = nz: p has the token (Iq3)
   line-12 : taskAt s p .line ≡ 12 → taskAt s p .toggle ≡ nz p → After s p (moves (withLine (taskAt s p) 13) Nothing)

@@ -18,6 +18,7 @@ use Rattle.machine.specs.RangeLaws.{TaskRange, range}
 use Rattle.machine.specs.Least.{least}
 use Rattle.machine.specs.LeastLaws.{least-attained}
 use Rattle.barrier.specs.Barrier.{Able, Holds}
+use Rattle.barrier.specs.Lines.{work-moves}
 use Rattle.ring.specs.Invariant.{Inv}
 use Rattle.ring.specs.Places.{bounds}
 
@@ -27,7 +28,7 @@ moves : (s : State) (p : ℕ) → Holds 2 Inv s → p < s .n → (let t = taskAt
 moves s p i h at-12 at-13 at-14 = (
   h,
   rw (effect-2 s p (i .kind))
-      (by-ring Acts (t .line) t (λ out. absurd (omega (arith, out (mine .line-from), last))) (λ _. refl) (s .n) p
+      (by-ring Acts (t .line) t (λ out. absurd (omega (arith, out (mine .line-from), last))) (λ _. work-moves t) (s .n) p
       (λ l. rw (eq-eqb (t .toggle) (nz p) (at-12 l))) (λ l. rw (lt-ltb (t .count) maxCount (at-13 l))) (λ l. rw (ne-eqb (t .toggle) (nz p) (at-14 l))) (λ _. refl)),
 )
   where

@@ -1,10 +1,11 @@
 -- The laws of the ring barrier.
 use mathlib.Core.Path.{refl}
+use native.Mathlib.Omega.{arith}
 use Rattle.barrier.specs.Barrier.{Barrier}
 use Rattle.ring.specs.Invariant.{Inv}
 use Rattle.ring.specs.Kept.{fresh, keeps}
 use Rattle.ring.specs.Moves.{someone}
-use Rattle.ring.specs.Round.{L, offset, within, counts, own}
+use Rattle.ring.specs.Round.{L, offset, within, counts, leads, own}
 use Rattle.ring.specs.Safe.{close, behind}
 
 abbrev pub ring : Barrier 2
@@ -17,10 +18,12 @@ ring =
       behind = behind;
       someone = someone;
       rise = 13;
+      later = omega arith;
       counts = counts;
+      leads = leads;
       L = L;
       offset = offset;
-      apart = λ n table q t x. (refl, refl);
+      apart = λ n table q t x. (refl, refl, refl);
       within = within;
       skips = λ v q. 0;
       own = own;

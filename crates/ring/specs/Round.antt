@@ -1,6 +1,7 @@
 -- The place of a task in its round: five moves, from line 14 on.
 use mathlib.Core.Path.{_≡_}
 use mathlib.Core.List.{List}
+use mathlib.Core.Logic.{_≢_}
 use Prim.Native.Nat.{ℕ, _+_, _*_, _%_, _<_}
 use native.Mathlib.Omega.{arith}
 use lib.Dec.{eqb}
@@ -9,7 +10,7 @@ use Rattle.lines.specs.declared.Task.{Task}
 use Rattle.machine.specs.declared.State.{State}
 use Rattle.machine.specs.Setters.{taskAt}
 use Rattle.machine.specs.Turn.{effectOf}
-use Rattle.barrier.specs.Barrier.{Able, Holds}
+use Rattle.barrier.specs.Barrier.{Able, Holds, Leads, uncounted}
 use Rattle.ring.specs.Invariant.{Inv}
 use Rattle.ring.specs.Lines.{by-line}
 
@@ -36,10 +37,16 @@ module _ (s : State) (p : ℕ) (i : Holds 2 Inv s) (a : Able s p) where
   pub counts : effectOf s p .task .count ≡ taskAt s p .count + pick (eqb (taskAt s p .line) 13) 1 0
   counts =
       by-line (λ e. e .task .count ≡ taskAt s p .count + pick (eqb (taskAt s p .line) 13) 1 0) s p (i .kind) a
-      (λ l. rw l (omega arith)) (λ l t. rw l (omega arith)) (λ l. rw l) (λ l t. rw l (omega arith)) (λ l. rw l (omega arith))
+      (λ l to left from most. rw l (omega arith)) (λ l t. rw l (omega arith)) (λ l. rw l) (λ l t. rw l (omega arith)) (λ l. rw l (omega arith))
 
-  -- a move takes the task on by one
-  pub own : placed (effectOf s p .task) ≡ placed (taskAt s p) + 1 + 0
+  -- 12 and 13 come between the work and the rise
+  pub leads : taskAt s p .line ≢ 11 → uncounted 13 (effectOf s p .task .line) + pick (eqb (taskAt s p .line) 13) 1 0 ≡ uncounted 13 (taskAt s p .line)
+  leads off =
+      by-line (λ e. uncounted 13 (e .task .line) + pick (eqb (taskAt s p .line) 13) 1 0 ≡ uncounted 13 (taskAt s p .line)) s p (i .kind) a
+      (λ l. absurd (off l)) (λ l t. rw l) (λ l. rw l) (λ l t. rw l) (λ l. rw l)
+
+  -- a move that leads on takes the task on by one
+  pub own : Leads s p → placed (effectOf s p .task) ≡ placed (taskAt s p) + 1 + 0
   own =
-      by-line (λ e. placed (e .task) ≡ placed (taskAt s p) + 1 + 0) s p (i .kind) a
-      (λ l. omega arith) (λ l t. omega arith) (λ l. omega arith) (λ l t. omega arith) (λ l. omega arith)
+      by-line (λ e. (taskAt s p .line ≡ 11 → e .task .line ≡ 12) → placed (e .task) ≡ placed (taskAt s p) + 1 + 0) s p (i .kind) a
+      (λ l to left from most on. omega (arith, on l)) (λ l t _. omega arith) (λ l _. omega arith) (λ l t _. omega arith) (λ l _. omega arith)

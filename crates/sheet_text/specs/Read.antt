@@ -27,7 +27,7 @@ parentCount kind n = pick (eqb kind 3) n 0
 abbrev pub fiveOf : ℕ → ℕ → ℕ → List ℕ → Five
 fiveOf kind n modulus rest =
     record {
-      inputs = inputsOf (record { kind = kind; n = n; modulus = modulus }) (take (parentCount kind n) rest) [];
+      inputs = inputsOf (record { kind = kind; n = n; modulus = modulus }) (take (parentCount kind n) rest) [] [];
       schedule = drop (parentCount kind n) rest;
     }
 

@@ -77,9 +77,9 @@ fn parent_count(kind: usize, n: usize, count: usize) -> usize
 
 // The fresh state of a text, which gives no table but the parents.
 fn fresh_state(setup: Setup, parents: &[u8]) -> Fresh
-    ensures { λ r. ⌜ r ≡ freshOf (inputsOf setup (now (parents .entry)) []) ⌝ }
+    ensures { λ r. ⌜ r ≡ freshOf (inputsOf setup (now (parents .entry)) [] []) ⌝ }
 {
-    setup.fresh(parents, &[])
+    setup.fresh(parents, &[], &[])
 }
 
 // Prints the sheet of a text's numbers, of which there are three at least.

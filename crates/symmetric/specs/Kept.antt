@@ -10,7 +10,7 @@ use Rattle.bitset.specs.Set.{bit, allOf, withoutOf}
 use Rattle.bitset.specs.SetLaws.{bit-zero, all-member, without-other}
 use Rattle.lines.specs.declared.Task.{Task}
 use Rattle.lines.specs.declared.Effect.{Effect}
-use Rattle.lines.specs.Setters.{withLine, withTag, withOld, withList, withLooked}
+use Rattle.lines.specs.Setters.{withLine, withTag, withOld, withList, withLooked, withLeft}
 use Rattle.lines.specs.Common.{raised}
 use Rattle.lines.specs.Symmetric.{nextTag}
 use Rattle.machine.specs.declared.State.{State}
@@ -77,8 +77,8 @@ module _ (s : State) (i : Holds 0 Inv s) (p : ℕ) (h : p < s .n) where
   mine = i .inv .alone p h
 
   -- 11 threatens none
-  keep-11 : taskAt s p .line ≡ 11 → Keeps s p (withLine (taskAt s p) 12)
-  keep-11 l =
+  keep-11 : taskAt s p .line ≡ 11 → (to left : ℕ) → 11 ≤ to → to ≤ 12 → Keeps s p (withLeft (withLine (taskAt s p) to) left)
+  keep-11 l to left from most =
       record {
         no-less = omega arith;
         alone = record { old = omega arith; tag = mine .tag; looked = omega arith };
@@ -141,7 +141,7 @@ module _ (s : State) (i : Holds 0 Inv s) (p : ℕ) (h : p < s .n) where
 pub keeps : (s : State) (p : ℕ) → Holds 0 Inv s → Able s p → Inv (viewOf (moved s p))
 keeps s p i a =
     by-line Left s p (i .valid) (i .kind) a
-    (λ l. put (keep-11 s i p (a .0) l))
+    (λ l to left from most. put (keep-11 s i p (a .0) l to left from most))
     (λ l. put (keep-12 s i p (a .0) l))
     (λ l e. put (keep-13-none s i p (a .0) l e))
     (λ k l e. put (keep-13-some s i p (a .0) k l e))

@@ -21,12 +21,12 @@ use Rattle.machine.specs.Turn.{effectOf}
 use Rattle.machine.specs.TurnLaws.{effect-0}
 use Rattle.machine.specs.RangeLaws.{range}
 use Rattle.barrier.specs.Barrier.{Able}
-use Rattle.barrier.specs.Lines.{Moving, no-wait, if-awaited, if-counted, if-chosen}
+use Rattle.barrier.specs.Lines.{Moving, no-wait, Worked, if-worked, if-awaited, if-counted, if-chosen}
 
 -- what holds of each line's move holds of the effect of a task that can move; 13 takes any task k that is on the list
 pub by-line : (P : Effect → Type 0) (s : State) (p : ℕ) → Valid s → s .kind ≡ 0 → Able s p
     → (let t = taskAt s p in
-    (t .line ≡ 11 → P (moves (withLine t 12) Nothing))
+    (t .line ≡ 11 → Worked P t)
     → (t .line ≡ 12 → P (moves (withLine (withList (raised (withTag (withOld t (t .tag)) (nextTag (s .modulus) (t .tag)))) (allOf (s .n))) 13) Nothing))
     → (t .line ≡ 13 → t .list ≡ 0 → P (moves (withLine t 11) Nothing))
     → ((k : ℕ) → t .line ≡ 13 → bit (t .list) k ≡ 1 → P (moves (withLine (withLooked t k) 14) Nothing))
@@ -34,7 +34,7 @@ pub by-line : (P : Effect → Type 0) (s : State) (p : ℕ) → Valid s → s .k
     → P (effectOf s p))
 by-line P s p ok kind able l11 l12 l13-none l13-some l14 =
     subst P (sym (effect-0 s p kind))
-    (by-symmetric (Moving P) (t .line) t (λ _. no-wait P t) (λ l _. l11 l) (s .n) (s .modulus) (taskAt s (t .looked) .tag)
+    (by-symmetric (Moving P) (t .line) t (λ _. no-wait P t) (λ l. if-worked P t l (l11 l)) (s .n) (s .modulus) (taskAt s (t .looked) .tag)
     (λ l. if-counted P t (λ _. l12 l))
     (λ l. if-chosen P 11 (firstOf (t .list) (t .start)) t (l13-none l) (λ ne. l13-some (firstOf (t .list) (t .start)) l (taken ne)))
     (λ l. if-awaited P (not (eqb (taskAt s (t .looked) .tag) (t .old))) t (λ d. l14 l (eqb-false _ _ (not-true _ d))))

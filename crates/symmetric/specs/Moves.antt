@@ -19,6 +19,7 @@ use Rattle.machine.specs.KeepLaws.{looked-known}
 use Rattle.machine.specs.Least.{least}
 use Rattle.machine.specs.LeastLaws.{least-le, least-attained}
 use Rattle.barrier.specs.Barrier.{Able, Holds}
+use Rattle.barrier.specs.Lines.{work-moves}
 use Rattle.symmetric.specs.Invariant.{Inv}
 use Rattle.symmetric.specs.Tags.{ahead-tag}
 
@@ -27,7 +28,7 @@ least-moves : (s : State) (p : ℕ) → Holds 0 Inv s → p < s .n → ((r : ℕ
     → effectOf s p .act ≡ Moves
 least-moves s p i h lowest low =
     rw (effect-0 s p (i .kind))
-    (by-symmetric Acts (t .line) t (λ out. absurd (omega (arith, out (mine .line-from), last))) (λ _. refl) (s .n) (s .modulus) (taskAt s (t .looked) .tag)
+    (by-symmetric Acts (t .line) t (λ out. absurd (omega (arith, out (mine .line-from), last))) (λ _. work-moves t) (s .n) (s .modulus) (taskAt s (t .looked) .tag)
     (λ l. rw (lt-ltb (t .count) maxCount low))
     (λ l. by-test Acts (eqb (t .list) 0) (λ _. refl) (λ _. refl))
     (λ l. rw (ne-eqb (taskAt s (t .looked) .tag) (t .old) (ahead-tag s i p (t .looked) h known (omega arith) (lowest (t .looked) known)))))

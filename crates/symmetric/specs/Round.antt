@@ -3,6 +3,7 @@
 use mathlib.Core.Path.{_≡_}
 use mathlib.Core.Bool.{true}
 use mathlib.Core.List.{List}
+use mathlib.Core.Logic.{_≢_}
 use Prim.Native.Nat.{ℕ, _+_, _*_, _-_, _≤_, _<_}
 use native.Mathlib.Omega.{arith}
 use lib.Dec.{eqb}
@@ -15,7 +16,7 @@ use Rattle.machine.specs.declared.State.{State}
 use Rattle.machine.specs.Setters.{taskAt}
 use Rattle.machine.specs.Turn.{effectOf}
 use Rattle.machine.specs.RangeLaws.{range}
-use Rattle.barrier.specs.Barrier.{Able, Holds}
+use Rattle.barrier.specs.Barrier.{Able, Holds, Leads, uncounted}
 use Rattle.symmetric.specs.Invariant.{Inv}
 use Rattle.symmetric.specs.Lines.{by-line}
 
@@ -53,18 +54,24 @@ module _ (s : State) (p : ℕ) (i : Holds 0 Inv s) (a : Able s p) where
   pub counts : effectOf s p .task .count ≡ taskAt s p .count + pick (eqb (taskAt s p .line) 12) 1 0
   counts =
       by-line (λ e. e .task .count ≡ taskAt s p .count + pick (eqb (taskAt s p .line) 12) 1 0) s p (i .valid) (i .kind) a
-      (λ l. rw l (omega arith)) (λ l. rw l (omega arith)) (λ l e. rw l (omega arith)) (λ k l e. rw l (omega arith)) (λ l d. rw l (omega arith))
+      (λ l to left from most. rw l (omega arith)) (λ l. rw l (omega arith)) (λ l e. rw l (omega arith)) (λ k l e. rw l (omega arith)) (λ l d. rw l (omega arith))
+
+  -- 12 comes between the work and the rise
+  pub leads : taskAt s p .line ≢ 11 → uncounted 12 (effectOf s p .task .line) + pick (eqb (taskAt s p .line) 12) 1 0 ≡ uncounted 12 (taskAt s p .line)
+  leads off =
+      by-line (λ e. uncounted 12 (e .task .line) + pick (eqb (taskAt s p .line) 12) 1 0 ≡ uncounted 12 (taskAt s p .line)) s p (i .valid) (i .kind) a
+      (λ l. absurd (off l)) (λ l. rw l) (λ l e. rw l) (λ k l e. rw l) (λ l d. rw l)
 
   -- how far a task that is t is
   abbrev placed : Task → ℕ
   placed t = t .count * (2 * s .n + 3) + offsetIn (s .n) t
 
-  -- a move takes the task on by one
-  pub own : placed (effectOf s p .task) ≡ placed (taskAt s p) + 1 + 0
+  -- a move that leads on takes the task on by one
+  pub own : Leads s p → placed (effectOf s p .task) ≡ placed (taskAt s p) + 1 + 0
   own =
-      by-line (λ e. placed (e .task) ≡ placed (taskAt s p) + 1 + 0) s p (i .valid) (i .kind) a
-      (λ l. rw l (omega arith))
-      (λ l. rw l (omega (arith, all-size (s .n) (range s (i .valid) .few))))
-      (λ l e. rw (l, e, size-zero) (omega arith))
-      (λ k l e. rw l (omega arith))
-      (λ l d. rw l (omega (arith, size-le, without-size (taskAt s p .list) (taskAt s p .looked) (i .inv .alone p (a .0) .looked l))))
+      by-line (λ e. (taskAt s p .line ≡ 11 → e .task .line ≡ 12) → placed (e .task) ≡ placed (taskAt s p) + 1 + 0) s p (i .valid) (i .kind) a
+      (λ l to left from most on. rw (l, on l) (omega arith))
+      (λ l _. rw l (omega (arith, all-size (s .n) (range s (i .valid) .few))))
+      (λ l e _. rw (l, e, size-zero) (omega arith))
+      (λ k l e _. rw l (omega arith))
+      (λ l d _. rw l (omega (arith, size-le, without-size (taskAt s p .list) (taskAt s p .looked) (i .inv .alone p (a .0) .looked l))))

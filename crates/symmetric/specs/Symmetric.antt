@@ -1,10 +1,11 @@
 -- The laws of the symmetric barrier, all together.
 use mathlib.Core.Path.{refl}
+use native.Mathlib.Omega.{arith}
 use Rattle.barrier.specs.Barrier.{Barrier}
 use Rattle.symmetric.specs.Invariant.{Inv}
 use Rattle.symmetric.specs.Kept.{fresh, keeps}
 use Rattle.symmetric.specs.Moves.{someone}
-use Rattle.symmetric.specs.Round.{L, offset, within, counts, own}
+use Rattle.symmetric.specs.Round.{L, offset, within, counts, leads, own}
 use Rattle.symmetric.specs.Safe.{close, behind}
 
 abbrev pub symmetric : Barrier 0
@@ -17,10 +18,12 @@ symmetric =
       behind = behind;
       someone = someone;
       rise = 12;
+      later = omega arith;
       counts = counts;
+      leads = leads;
       L = L;
       offset = offset;
-      apart = λ n table q t x. (refl, refl);
+      apart = λ n table q t x. (refl, refl, refl);
       within = within;
       skips = λ v p. 0;
       own = own;

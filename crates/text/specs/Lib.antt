@@ -4,5 +4,6 @@ pub mod Scan
 pub mod Decimal
 pub mod Page
 pub mod NumbersLaws
+pub mod CopyLaws
 pub mod DecimalLaws
 pub mod PageLaws

@@ -46,7 +46,7 @@ fresh i e k =
 pub keeps : (s : State) (p : ℕ) → Holds 3 Inv s → Able s p → Inv (viewOf (moved s p))
 keeps s p i able =
     by-line (λ e. Inv (viewOf (written (e .write) (withTask s p (e .task))))) s p (i .valid) (i .kind) able
-    (λ l. now c (line-11 tree few g p known l))
+    (λ l to left from most. now c (line-11 tree few g p known l to left from most))
     (λ l. now c (line-12 tree few g p known l))
     (λ l z. now c (line-13-none tree few g p known l z))
     (λ k l on. now c (line-13-some tree few g p known k l on))

@@ -20,13 +20,13 @@ use Rattle.machine.specs.Range.{tableOf, Valid}
 use Rattle.machine.specs.Turn.{effectOf}
 use Rattle.machine.specs.TurnLaws.{effect-3}
 use Rattle.barrier.specs.Barrier.{Able}
-use Rattle.barrier.specs.Lines.{Moving, no-wait, if-awaited, if-counted, if-chosen}
+use Rattle.barrier.specs.Lines.{Moving, no-wait, Worked, if-worked, if-awaited, if-counted, if-chosen}
 use Rattle.tree.specs.TreeRange.{chosen}
 
 -- what holds of each line's move holds of the effect of a task that can move; 13 and 18 take any task k that is on the list
 pub by-line : (P : Effect → Type 0) (s : State) (p : ℕ) → Valid s → s .kind ≡ 3 → Able s p
     → (let t = taskAt s p in
-    (t .line ≡ 11 → P (moves (withLine t 12) Nothing))
+    (t .line ≡ 11 → Worked P t)
     → (t .line ≡ 12 → P (moves (withLine (withList t (childrenOf (tableOf s) p)) 13) Nothing))
     → (t .line ≡ 13 → t .list ≡ 0 → P (moves (withLine t 15) Nothing))
     → ((k : ℕ) → t .line ≡ 13 → bit (t .list) k ≡ 1 → P (moves (withLine (withLooked t k) 14) Nothing))
@@ -40,7 +40,7 @@ pub by-line : (P : Effect → Type 0) (s : State) (p : ℕ) → Valid s → s .k
     → P (effectOf s p))
 by-line P s p ok kind able l11 l12 l13-none l13-some l14 l15-root l15-other l16 l17 l18-none l18-some =
     rw (effect-3 s p kind)
-    (by-tree (Moving P) (t .line) t (λ _. no-wait P t) (λ l _. l11 l) (tableOf s) p (taskAt s (t .looked) .flag)
+    (by-tree (Moving P) (t .line) t (λ _. no-wait P t) (λ l. if-worked P t l (l11 l)) (tableOf s) p (taskAt s (t .looked) .flag)
     (λ l _. l12 l)
     (λ l. if-chosen P 15 (leastOf (t .list)) t (l13-none l) (λ ne. l13-some (leastOf (t .list)) l (taken ne)))
     (λ l. if-awaited P (eqb (taskAt s (t .looked) .flag) 1) t (λ up. l14 l (eqb-true _ 1 up)))

@@ -1,20 +1,19 @@
 -- The claim of 02's P5, in its words: "from leaving 11 until it is back there, whatever the others do, a task with k children moves once at each of
 -- 12, 15, 16 and 17, k times at 14, and k + 1 times at each of 13 and 18." Over the turn that the contracts cite; the laws stand in `LoopLaws`.
 use mathlib.Core.Path.{_≡_}
-use mathlib.Core.Bool.{_&&_}
 use mathlib.Core.List.{List, [], _∷_}
 use mathlib.Core.Logic.{_≢_}
 use Prim.Native.Nat.{ℕ, _+_}
-use lib.Dec.{eqb}
-use Rattle.bitset.specs.Choice.{pick}
 use Rattle.bitset.specs.Set.{sizeOf}
 use Rattle.parents.specs.Parents.{childrenOf}
 use Rattle.machine.specs.declared.State.{State}
 use Rattle.machine.specs.Setters.{taskAt}
 use Rattle.machine.specs.Range.{tableOf, Valid}
-use Rattle.machine.specs.Turn.{turnOf, isMoved}
+use Rattle.machine.specs.Turn.{turnOf}
+use Rattle.barrier.specs.Times.{timesAt}
 
--- "leaving 11": the task p has just left 11 where it is at 12, for 11 leads there and nothing else does (`leaves-11`, `only-11` in `LoopLaws`)
+-- "leaving 11": the task p has just left 11 where it is at 12, for 11 leads there, with the last move of its work, and nothing else does
+-- (`leaves-11`, `only-11` in `LoopLaws`)
 abbrev pub JustLeft : ℕ → State → Type 0
 JustLeft p s = taskAt s p .line ≡ 12
 
@@ -23,15 +22,6 @@ JustLeft p s = taskAt s p .line ≡ 12
 abbrev pub FirstBack : ℕ → State → List ℕ → Type 0
 FirstBack p s [] = taskAt s p .line ≡ 11
 FirstBack p s (q ∷ ts) = (taskAt s p .line ≢ 11) × FirstBack p (turnOf s q .state) ts
-
--- 1 if a turn of q moves the task p at this line, else 0
-abbrev pub moveAt : ℕ → ℕ → State → ℕ → ℕ
-moveAt p line s q = pick (isMoved (turnOf s q .outcome) && (eqb q p && eqb (taskAt s p .line) line)) 1 0
-
--- how many times p moves at this line in the turns
-abbrev pub timesAt : ℕ → ℕ → State → List ℕ → ℕ
-timesAt p line s [] = 0
-timesAt p line s (q ∷ ts) = moveAt p line s q + timesAt p line (turnOf s q .state) ts
 
 -- the numbers of the claim, in the order of the text
 pub record LoopMoves (k : ℕ) (times : ℕ → ℕ) : Type 0 where

@@ -4,31 +4,26 @@ use mathlib.Core.Path.{_≡_, refl, sym, ap, _∙_, subst}
 use mathlib.Core.List.{List, [], _∷_}
 use mathlib.Core.Logic.{_≢_}
 use Prim.Native.Nat.{ℕ, _+_}
-use native.Mathlib.Decide.{ℕ-discrete}
 use native.Mathlib.Omega.{arith}
 use lib.Dec.{eqb, leb}
-use borrow.Author.Tests.{eq-eqb, ne-eqb}
 use Rattle.bitset.specs.Choice.{pick}
 use Rattle.bitset.specs.Set.{sizeOf}
 use Rattle.bitset.specs.SetLaws.{size-zero, without-size}
 use Rattle.lines.specs.declared.Task.{Task}
-use Rattle.lines.specs.Setters.{withToggle, withFlag}
 use Rattle.machine.specs.declared.State.{State}
-use Rattle.machine.specs.declared.Move.the-variants.{Moved, Waited}
-use Rattle.machine.specs.declared.Outcome.{Outcome}
-use Rattle.machine.specs.declared.Outcome.the-variants.{Made, Refused}
 use Rattle.machine.specs.Setters.{taskAt}
 use Rattle.machine.specs.Range.{tableOf, Valid}
 use Rattle.machine.specs.Turn.{effectOf, turnOf}
-use Rattle.machine.specs.TurnLaws.{refused-still, waited-tallied, moved-tallied, turn-constants}
+use Rattle.machine.specs.TurnLaws.{turn-constants}
 use Rattle.machine.specs.KeepLaws.{turn-valid}
 use Rattle.barrier.specs.Barrier.{Able}
-use Rattle.barrier.specs.Moves.{moved-able, own-after, other-after}
 use Rattle.barrier.specs.Place.{same-table}
+use Rattle.barrier.specs.Times.{moveAt, timesAt}
+use Rattle.barrier.specs.TimesLaws.{core, Turns, moves, stays, turns}
 use Rattle.tree.specs.Lines.{by-line}
 use Rattle.tree.specs.Steps.{Looks}
 use Rattle.tree.specs.Round.{children}
-use Rattle.tree.specs.Loop.{JustLeft, FirstBack, moveAt, timesAt, Claim}
+use Rattle.tree.specs.Loop.{JustLeft, FirstBack, Claim}
 
 -- ---- the moves yet to make
 
@@ -82,40 +77,12 @@ module _ (s : State) (p : ℕ) (ok : Valid s) (kind : s .kind ≡ 3) (able : Abl
 
 -- ---- a turn
 
--- a task but for its toggle and flag, which other tasks write
-abbrev core : Task → Task
-core t = withToggle (withFlag t 0) 0
-
--- a turn of q is a move of the task p, or it is none and leaves it, but for toggle and flag
-data Turns (s : State) (p q : ℕ) : Type 0 where
-  moves : q ≡ p → Able s p → ((l : ℕ) → moveAt p l s q ≡ pick (eqb (taskAt s p .line) l) 1 0)
-      → core (taskAt (turnOf s q .state) p) ≡ core (effectOf s p .task) → Turns s p q
-  stays : ((l : ℕ) → moveAt p l s q ≡ 0) → core (taskAt (turnOf s q .state) p) ≡ core (taskAt s p) → Turns s p q
-
-turns : (s : State) (p q : ℕ) → Valid s → Turns s p q
-turns s p q ok = go (turnOf s q .outcome) refl (ℕ-discrete q p)
-  where
-    -- the task r in the state after the turn, which is s′
-    after : {s′ : State} (r : ℕ) → turnOf s q .state ≡ s′ → core (taskAt (turnOf s q .state) r) ≡ core (taskAt s′ r)
-    after r e = ap (λ (x : State). core (taskAt x r)) e
-
-    go : (o : Outcome) → turnOf s q .outcome ≡ o → Dec (q ≡ p) → Turns s p q
-    go (Made (Moved c)) e (yes eq) =
-        let able = moved-able s q c e in
-        subst (λ (x : ℕ). Turns s x q) eq
-        (moves refl able (λ l. rw (e, eq-eqb q q refl)) (after q (moved-tallied s q c e) ∙ own-after core (λ t x. (refl, refl)) s q ok able))
-    go (Made (Moved c)) e (no ne) =
-        stays (λ l. rw (e, ne-eqb q p ne))
-        (after p (moved-tallied s q c e) ∙ other-after core (λ t x. (refl, refl)) s q ok (moved-able s q c e) p (λ eq. ne (sym eq)))
-    go (Made Waited) e d = stays (λ l. rw e) (after p (waited-tallied s q e))
-    go (Refused k) e d = stays (λ l. rw e) (after p (refused-still s q k e))
-
 module _ (s : State) (p : ℕ) (ok : Valid s) (kind : s .kind ≡ 3) where
-  -- a move leads to 12 from 11, and from no other line
-  to-12 : Able s p → (taskAt s p .line ≡ 11 → effectOf s p .task .line ≡ 12) × (effectOf s p .task .line ≡ 12 → taskAt s p .line ≡ 11)
+  -- a move at 11 stays there or leads to 12, and one at another line doesn't lead to 12
+  to-12 : Able s p → (taskAt s p .line ≡ 11 → effectOf s p .task .line ≢ 11 → effectOf s p .task .line ≡ 12) × (effectOf s p .task .line ≡ 12 → taskAt s p .line ≡ 11)
   to-12 able =
-      by-line (λ e. (taskAt s p .line ≡ 11 → e .task .line ≡ 12) × (e .task .line ≡ 12 → taskAt s p .line ≡ 11)) s p ok kind able
-      (λ l. (λ _. refl, λ _. l)) (λ l. omega arith) (λ l z. omega arith) (λ k l on. omega arith) (λ l up. omega arith) (λ l z. omega arith) (λ l ne. omega arith)
+      by-line (λ e. (taskAt s p .line ≡ 11 → e .task .line ≢ 11 → e .task .line ≡ 12) × (e .task .line ≡ 12 → taskAt s p .line ≡ 11)) s p ok kind able
+      (λ l to left from most. (λ _ off. omega arith, λ _. l)) (λ l. omega arith) (λ l z. omega arith) (λ k l on. omega arith) (λ l up. omega arith) (λ l z. omega arith) (λ l ne. omega arith)
       (λ l w. omega arith) (λ l. omega arith) (λ l z. omega arith) (λ k l on. omega arith)
 
   -- so a task that its turn takes from 11 has just left it
@@ -123,7 +90,7 @@ module _ (s : State) (p : ℕ) (ok : Valid s) (kind : s .kind ≡ 3) where
   leaves-11 at away = go (turns s p p ok)
     where
       go : Turns s p p → JustLeft p (turnOf s p .state)
-      go (moves _ able _ e) = ap (λ (t : Task). t .line) e ∙ to-12 able .0 at
+      go (moves _ able _ e) = let same = ap (λ (t : Task). t .line) e in same ∙ to-12 able .0 at (λ back. away (same ∙ back))
       go (stays _ e) = absurd (away (ap (λ (t : Task). t .line) e ∙ at))
 
   -- and whatever turn brings a task to 12, it is its own, from 11

@@ -22,6 +22,7 @@ use Rattle.machine.specs.RangeLaws.{TaskRange, range}
 use Rattle.machine.specs.Least.{least}
 use Rattle.machine.specs.LeastLaws.{least-attained}
 use Rattle.barrier.specs.Barrier.{Able, Holds}
+use Rattle.barrier.specs.Lines.{work-moves}
 use Rattle.tree.specs.Invariant.{Mid, Top, Inv}
 use Rattle.tree.specs.TreeRange.{is-tree, list-child}
 use Rattle.tree.specs.Stands.{near}
@@ -32,7 +33,7 @@ module _ (s : State) (i : Holds 3 Inv s) (below : i .inv .round < maxCount) wher
   mid-moves p known m up = (
     known,
     rw (effect-3 s p (i .kind))
-        (by-tree Acts (t .line) t (λ out. absurd (omega (arith, out (mine .line-from), last))) (λ _. refl) (tableOf s) p (taskAt s (t .looked) .flag) (λ _. refl)
+        (by-tree Acts (t .line) t (λ out. absurd (omega (arith, out (mine .line-from), last))) (λ _. work-moves t) (tableOf s) p (taskAt s (t .looked) .flag) (λ _. refl)
         (λ _. by-test Acts (eqb (t .list) 0) (λ _. refl) (λ _. refl)) (λ l. rw (up l)) (λ _. rw (lt-ltb (t .count) maxCount (omega arith)))
         (λ _. rw (m .flag, or-true (eqb p 0))) (λ _. refl) (λ _. by-test Acts (eqb (t .list) 0) (λ _. refl) (λ _. refl))),
   )

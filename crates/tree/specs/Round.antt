@@ -1,6 +1,7 @@
 -- How far a task is in its round: a round of a task with k children has 3k + 7 moves, and each move takes its own task one on.
 use mathlib.Core.Path.{_≡_}
 use mathlib.Core.List.{List}
+use mathlib.Core.Logic.{_≢_}
 use Prim.Native.Nat.{ℕ, _+_, _-_, _*_, _<_}
 use native.Mathlib.Omega.{arith}
 use lib.Dec.{eqb}
@@ -14,7 +15,7 @@ use Rattle.machine.specs.declared.State.{State}
 use Rattle.machine.specs.Setters.{taskAt}
 use Rattle.machine.specs.Range.{tableOf}
 use Rattle.machine.specs.Turn.{effectOf}
-use Rattle.barrier.specs.Barrier.{Able, Holds}
+use Rattle.barrier.specs.Barrier.{Able, Holds, Leads, uncounted}
 use Rattle.tree.specs.Invariant.{Inv}
 use Rattle.tree.specs.TreeRange.{list-size}
 use Rattle.tree.specs.Lines.{by-line}
@@ -71,22 +72,28 @@ module _ (s : State) (p : ℕ) (i : Holds 3 Inv s) (able : Able s p) where
   pub counts : effectOf s p .task .count ≡ taskAt s p .count + pick (eqb (taskAt s p .line) 15) 1 0
   counts =
       by-line (λ e. e .task .count ≡ taskAt s p .count + pick (eqb (taskAt s p .line) 15) 1 0) s p (i .valid) (i .kind) able
-      (λ l. rw l (omega arith)) (λ l. rw l (omega arith)) (λ l z. rw l (omega arith)) (λ k l on. rw l (omega arith)) (λ l up. rw l (omega arith))
+      (λ l to left from most. rw l (omega arith)) (λ l. rw l (omega arith)) (λ l z. rw l (omega arith)) (λ k l on. rw l (omega arith)) (λ l up. rw l (omega arith))
       (λ l z. rw l (omega arith)) (λ l ne. rw l (omega arith)) (λ l w. rw l (omega arith)) (λ l. rw l (omega arith)) (λ l z. rw l (omega arith))
       (λ k l on. rw l (omega arith))
 
-  -- a move takes the task on by one
-  pub own : placed (children (tableOf s) p) (effectOf s p .task) ≡ placed (children (tableOf s) p) (taskAt s p) + 1 + 0
+  -- the lines from 12 to 15 come between the work and the rise
+  pub leads : taskAt s p .line ≢ 11 → uncounted 15 (effectOf s p .task .line) + pick (eqb (taskAt s p .line) 15) 1 0 ≡ uncounted 15 (taskAt s p .line)
+  leads off =
+      by-line (λ e. uncounted 15 (e .task .line) + pick (eqb (taskAt s p .line) 15) 1 0 ≡ uncounted 15 (taskAt s p .line)) s p (i .valid) (i .kind) able
+      (λ l. absurd (off l)) (λ l. rw l) (λ l z. rw l) (λ k l on. rw l) (λ l up. rw l) (λ l z. rw l) (λ l ne. rw l) (λ l w. rw l) (λ l. rw l) (λ l z. rw l) (λ k l on. rw l)
+
+  -- a move that leads on takes the task on by one
+  pub own : Leads s p → placed (children (tableOf s) p) (effectOf s p .task) ≡ placed (children (tableOf s) p) (taskAt s p) + 1 + 0
   own =
-      by-line (λ e. placed (children (tableOf s) p) (e .task) ≡ placed (children (tableOf s) p) (taskAt s p) + 1 + 0) s p (i .valid) (i .kind) able
-      (λ l. rw l (omega arith))
-      (λ l. rw l (omega arith))
-      (λ l z. rw (l, z, size-zero) (omega arith))
-      (λ k l on. rw l (omega arith))
-      (λ l up. rw l (omega (arith, fewer (taskAt s p .looked) (i .inv .standing .looks p (able .0) l))))
-      (λ l z. rw l (omega arith))
-      (λ l ne. rw l (omega arith))
-      (λ l w. rw l (omega arith))
-      (λ l. rw l (omega arith))
-      (λ l z. rw (l, z, size-zero) (omega arith))
-      (λ k l on. rw l (omega (arith, fewer k on)))
+      by-line (λ e. (taskAt s p .line ≡ 11 → e .task .line ≡ 12) → placed (children (tableOf s) p) (e .task) ≡ placed (children (tableOf s) p) (taskAt s p) + 1 + 0) s p (i .valid) (i .kind) able
+      (λ l to left from most on. rw (l, on l) (omega arith))
+      (λ l _. rw l (omega arith))
+      (λ l z _. rw (l, z, size-zero) (omega arith))
+      (λ k l on _. rw l (omega arith))
+      (λ l up _. rw l (omega (arith, fewer (taskAt s p .looked) (i .inv .standing .looks p (able .0) l))))
+      (λ l z _. rw l (omega arith))
+      (λ l ne _. rw l (omega arith))
+      (λ l w _. rw l (omega arith))
+      (λ l _. rw l (omega arith))
+      (λ l z _. rw (l, z, size-zero) (omega arith))
+      (λ k l on _. rw l (omega (arith, fewer k on)))

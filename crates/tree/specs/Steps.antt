@@ -6,13 +6,13 @@ use mathlib.Core.Logic.{_≢_, _⊎_, inl, inr}
 use Prim.Native.Nat.{ℕ, _+_, _≤_, _<_}
 use native.Mathlib.Decide.{ℕ-discrete}
 use native.Mathlib.Omega.{arith}
-use borrow.Author.Tests.{eq-eqb, ne-eqb}
+use borrow.Author.Tests.{eq-eqb, ne-eqb, le-leb}
 use Rattle.bitset.specs.Set.{bit, withoutOf}
 use Rattle.bitset.specs.SetLaws.{bit-zero, without-same, without-other}
 use Rattle.parents.specs.Parents.{parentOf, IsTree, childrenOf}
 use Rattle.parents.specs.ParentsLaws.{children-exactly}
 use Rattle.lines.specs.declared.Task.{Task}
-use Rattle.lines.specs.Setters.{withLine, withList, withLooked, withFlag}
+use Rattle.lines.specs.Setters.{withLine, withList, withLooked, withFlag, withLeft}
 use Rattle.lines.specs.Common.{raised}
 use Rattle.barrier.specs.Puts.{Puts, at-task}
 use Rattle.tree.specs.Invariant.{Mid, Low, Top, Want, mid-or-top, top, low, Meets, want, Standing}
@@ -75,8 +75,8 @@ module _ {n : ℕ} {table : List ℕ} (tree : IsTree table n) (few : n ≤ 64) {
   -- ---- the lines, each with the clause that it threatens
 
   -- 12 asks of a child what 11 does
-  pub line-11 : t p .line ≡ 11 → Becomes c (withLine (t p) 12)
-  line-11 e = keep-mid (omega arith) (omega arith) (omega arith) (λ r k m. rw e at m)
+  pub line-11 : t p .line ≡ 11 → (to left : ℕ) → 11 ≤ to → to ≤ 12 → Becomes c (withLeft (withLine (t p) to) left)
+  line-11 e to left from most = keep-mid (omega arith) (omega arith) (omega arith) (λ r k m. rw (le-leb to 12 most) (rw e at m))
 
   -- Iq5: every child is on the list
   pub line-12 : t p .line ≡ 12 → Becomes c (withLine (withList (t p) (childrenOf table p)) 13)

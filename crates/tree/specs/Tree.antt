@@ -1,10 +1,11 @@
 -- The tree barrier has the laws of a barrier.
 use mathlib.Core.Path.{refl}
+use native.Mathlib.Omega.{arith}
 use Rattle.barrier.specs.Barrier.{Barrier}
 use Rattle.tree.specs.Invariant.{Inv}
 use Rattle.tree.specs.Kept.{fresh, keeps}
 use Rattle.tree.specs.Moves.{someone}
-use Rattle.tree.specs.Round.{L, offset, within, counts, own}
+use Rattle.tree.specs.Round.{L, offset, within, counts, leads, own}
 use Rattle.tree.specs.Safe.{close, behind}
 
 abbrev pub tree : Barrier 3
@@ -17,10 +18,12 @@ tree =
       behind = behind;
       someone = someone;
       rise = 15;
+      later = omega arith;
       counts = counts;
+      leads = leads;
       L = L;
       offset = offset;
-      apart = λ n table q t x. (refl, refl);
+      apart = λ n table q t x. (refl, refl, refl);
       within = within;
       skips = λ v p. 0;
       own = own;

@@ -20,8 +20,8 @@ use Rattle.runner.specs.Run.{runOf, logAfter, endingReason}
 use Rattle.tungwaff.specs.declared.WholeRun.{WholeRun}
 
 -- the inputs of a fresh state, from numbers
-abbrev pub inputsFrom : ℕ → ℕ → ℕ → List ℕ → List ℕ → Inputs
-inputsFrom kind n modulus parents starts = inputsOf (record { kind = kind; n = n; modulus = modulus }) parents starts
+abbrev pub inputsFrom : ℕ → ℕ → ℕ → List ℕ → List ℕ → List ℕ → Inputs
+inputsFrom kind n modulus parents starts works = inputsOf (record { kind = kind; n = n; modulus = modulus }) parents starts works
 
 -- the place that an ending gives, or else the turns made
 abbrev pub endingNumber : Ending → ℕ → ℕ

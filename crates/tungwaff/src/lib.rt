@@ -26,13 +26,14 @@ fn whole_run(
     setup: Setup,
     parents: &[u8],
     starts: &[u8],
+    works: &[u8],
     schedule: &[u8],
     log: &mut [u8],
 ) -> WholeRun
-    ensures { λ r. ⌜ r ≡ wholeRunOf (inputsOf setup (now (parents .entry)) (now (starts .entry))) (now (schedule .entry)) (now (log .entry)) ⌝ }
-    ensures { λ _. ⌜ now (log .exit) ≡ wholeRunLog (inputsOf setup (now (parents .entry)) (now (starts .entry))) (now (schedule .entry)) (now (log .entry)) ⌝ }
+    ensures { λ r. ⌜ r ≡ wholeRunOf (inputsOf setup (now (parents .entry)) (now (starts .entry)) (now (works .entry))) (now (schedule .entry)) (now (log .entry)) ⌝ }
+    ensures { λ _. ⌜ now (log .exit) ≡ wholeRunLog (inputsOf setup (now (parents .entry)) (now (starts .entry)) (now (works .entry))) (now (schedule .entry)) (now (log .entry)) ⌝ }
 {
-    let fresh = setup.fresh(parents, starts);
+    let fresh = setup.fresh(parents, starts, works);
     let first = fresh.state;
     let reason = fresh.reason;
     if reason != 0 {
@@ -54,7 +55,7 @@ fn whole_run(
     }
 }
 
-// Runs the whole schedule from a fresh state with these tables of parents and starts, and writes two bytes a turn to the log. Answers the reason that refused the fresh
+// Runs the whole schedule from a fresh state with these tables of parents, starts and work lengths, and writes two bytes a turn to the log. Answers the reason that refused the fresh
 // state, the run or a turn; 0 if nothing was refused. The number is that of the turns made, for reason 9 the place of the first turn
 // that is no task; the rounds are those that the turns made have closed.
 #[no_mangle]
@@ -64,17 +65,25 @@ pub extern "C" fn tungwaff_run(
     modulus: usize,
     parents: &[u8],
     starts: &[u8],
+    works: &[u8],
     schedule: &[u8],
     log: &mut [u8],
     number: &mut usize,
     rounds: &mut u32,
 ) -> u8
-    ensures { λ r. ⌜ r ≡ wholeRunOf (inputsFrom kind n modulus (now (parents .entry)) (now (starts .entry))) (now (schedule .entry)) (now (log .entry)) .reason ⌝ }
-    ensures { λ _. ⌜ now (number .exit) ≡ wholeRunOf (inputsFrom kind n modulus (now (parents .entry)) (now (starts .entry))) (now (schedule .entry)) (now (log .entry)) .number ⌝ }
-    ensures { λ _. ⌜ now (rounds .exit) ≡ wholeRunOf (inputsFrom kind n modulus (now (parents .entry)) (now (starts .entry))) (now (schedule .entry)) (now (log .entry)) .rounds ⌝ }
-    ensures { λ _. ⌜ now (log .exit) ≡ wholeRunLog (inputsFrom kind n modulus (now (parents .entry)) (now (starts .entry))) (now (schedule .entry)) (now (log .entry)) ⌝ }
+    ensures { λ r. ⌜ r ≡ wholeRunOf (inputsFrom kind n modulus (now (parents .entry)) (now (starts .entry)) (now (works .entry))) (now (schedule .entry)) (now (log .entry)) .reason ⌝ }
+    ensures { λ _. ⌜ now (number .exit) ≡ wholeRunOf (inputsFrom kind n modulus (now (parents .entry)) (now (starts .entry)) (now (works .entry))) (now (schedule .entry)) (now (log .entry)) .number ⌝ }
+    ensures { λ _. ⌜ now (rounds .exit) ≡ wholeRunOf (inputsFrom kind n modulus (now (parents .entry)) (now (starts .entry)) (now (works .entry))) (now (schedule .entry)) (now (log .entry)) .rounds ⌝ }
+    ensures { λ _. ⌜ now (log .exit) ≡ wholeRunLog (inputsFrom kind n modulus (now (parents .entry)) (now (starts .entry)) (now (works .entry))) (now (schedule .entry)) (now (log .entry)) ⌝ }
 {
-    let run = whole_run(Setup { kind, n, modulus }, parents, starts, schedule, log);
+    let run = whole_run(
+        Setup { kind, n, modulus },
+        parents,
+        starts,
+        works,
+        schedule,
+        log,
+    );
     *number = run.number;
     *rounds = run.rounds;
     run.reason
@@ -90,18 +99,26 @@ pub extern "C" fn tungwaff_turn(
     modulus: usize,
     parents: &[u8],
     starts: &[u8],
+    works: &[u8],
     schedule: &[u8],
     log: &mut [u8],
     task: usize,
     number: &mut usize,
     closed: &mut u8,
 ) -> u8
-    ensures { λ r. ⌜ r ≡ thenTurnReason (wholeRunOf (inputsFrom kind n modulus (now (parents .entry)) (now (starts .entry))) (now (schedule .entry)) (now (log .entry))) task ⌝ }
-    ensures { λ _. ⌜ now (number .exit) ≡ thenTurnNumber (wholeRunOf (inputsFrom kind n modulus (now (parents .entry)) (now (starts .entry))) (now (schedule .entry)) (now (log .entry))) task ⌝ }
-    ensures { λ _. ⌜ now (closed .exit) ≡ thenTurnClosed (wholeRunOf (inputsFrom kind n modulus (now (parents .entry)) (now (starts .entry))) (now (schedule .entry)) (now (log .entry))) task ⌝ }
-    ensures { λ _. ⌜ now (log .exit) ≡ wholeRunLog (inputsFrom kind n modulus (now (parents .entry)) (now (starts .entry))) (now (schedule .entry)) (now (log .entry)) ⌝ }
+    ensures { λ r. ⌜ r ≡ thenTurnReason (wholeRunOf (inputsFrom kind n modulus (now (parents .entry)) (now (starts .entry)) (now (works .entry))) (now (schedule .entry)) (now (log .entry))) task ⌝ }
+    ensures { λ _. ⌜ now (number .exit) ≡ thenTurnNumber (wholeRunOf (inputsFrom kind n modulus (now (parents .entry)) (now (starts .entry)) (now (works .entry))) (now (schedule .entry)) (now (log .entry))) task ⌝ }
+    ensures { λ _. ⌜ now (closed .exit) ≡ thenTurnClosed (wholeRunOf (inputsFrom kind n modulus (now (parents .entry)) (now (starts .entry)) (now (works .entry))) (now (schedule .entry)) (now (log .entry))) task ⌝ }
+    ensures { λ _. ⌜ now (log .exit) ≡ wholeRunLog (inputsFrom kind n modulus (now (parents .entry)) (now (starts .entry)) (now (works .entry))) (now (schedule .entry)) (now (log .entry)) ⌝ }
 {
-    let run = whole_run(Setup { kind, n, modulus }, parents, starts, schedule, log);
+    let run = whole_run(
+        Setup { kind, n, modulus },
+        parents,
+        starts,
+        works,
+        schedule,
+        log,
+    );
     let reason = run.reason;
     if reason != 0 {
         *number = run.number;
@@ -126,15 +143,23 @@ pub extern "C" fn tungwaff_ready(
     modulus: usize,
     parents: &[u8],
     starts: &[u8],
+    works: &[u8],
     schedule: &[u8],
     log: &mut [u8],
     number: &mut usize,
 ) -> u8
-    ensures { λ r. ⌜ r ≡ thenReadyReason (wholeRunOf (inputsFrom kind n modulus (now (parents .entry)) (now (starts .entry))) (now (schedule .entry)) (now (log .entry))) ⌝ }
-    ensures { λ _. ⌜ now (number .exit) ≡ thenReadyNumber (wholeRunOf (inputsFrom kind n modulus (now (parents .entry)) (now (starts .entry))) (now (schedule .entry)) (now (log .entry))) ⌝ }
-    ensures { λ _. ⌜ now (log .exit) ≡ wholeRunLog (inputsFrom kind n modulus (now (parents .entry)) (now (starts .entry))) (now (schedule .entry)) (now (log .entry)) ⌝ }
+    ensures { λ r. ⌜ r ≡ thenReadyReason (wholeRunOf (inputsFrom kind n modulus (now (parents .entry)) (now (starts .entry)) (now (works .entry))) (now (schedule .entry)) (now (log .entry))) ⌝ }
+    ensures { λ _. ⌜ now (number .exit) ≡ thenReadyNumber (wholeRunOf (inputsFrom kind n modulus (now (parents .entry)) (now (starts .entry)) (now (works .entry))) (now (schedule .entry)) (now (log .entry))) ⌝ }
+    ensures { λ _. ⌜ now (log .exit) ≡ wholeRunLog (inputsFrom kind n modulus (now (parents .entry)) (now (starts .entry)) (now (works .entry))) (now (schedule .entry)) (now (log .entry)) ⌝ }
 {
-    let run = whole_run(Setup { kind, n, modulus }, parents, starts, schedule, log);
+    let run = whole_run(
+        Setup { kind, n, modulus },
+        parents,
+        starts,
+        works,
+        schedule,
+        log,
+    );
     let reason = run.reason;
     if reason != 0 {
         *number = run.number;
@@ -165,7 +190,7 @@ pub extern "C" fn tungwaff_passes(
     numbers::passes_reason(answer)
 }
 
-// Plays a trace from a fresh state with these tables of parents and starts. Answers the reason that refused it, 0 if it was not refused. `agrees` is 1
+// Plays a trace from a fresh state with these tables of parents, starts and work lengths. Answers the reason that refused it, 0 if it was not refused. `agrees` is 1
 // if every triple is what the defined turn does, else 0; `index` is that of the first triple that is not, from 0, and 0 where none is told.
 #[no_mangle]
 pub extern "C" fn tungwaff_play(
@@ -174,15 +199,16 @@ pub extern "C" fn tungwaff_play(
     modulus: usize,
     parents: &[u8],
     starts: &[u8],
+    works: &[u8],
     trace: &[u8],
     agrees: &mut u8,
     index: &mut usize,
 ) -> u8
-    ensures { λ r. ⌜ r ≡ verdictReason (playOf (inputsFrom kind n modulus (now (parents .entry)) (now (starts .entry))) (now (trace .entry)) .verdict) ⌝ }
-    ensures { λ _. ⌜ now (agrees .exit) ≡ verdictAgrees (playOf (inputsFrom kind n modulus (now (parents .entry)) (now (starts .entry))) (now (trace .entry)) .verdict) ⌝ }
-    ensures { λ _. ⌜ now (index .exit) ≡ verdictIndex (playOf (inputsFrom kind n modulus (now (parents .entry)) (now (starts .entry))) (now (trace .entry)) .verdict) ⌝ }
+    ensures { λ r. ⌜ r ≡ verdictReason (playOf (inputsFrom kind n modulus (now (parents .entry)) (now (starts .entry)) (now (works .entry))) (now (trace .entry)) .verdict) ⌝ }
+    ensures { λ _. ⌜ now (agrees .exit) ≡ verdictAgrees (playOf (inputsFrom kind n modulus (now (parents .entry)) (now (starts .entry)) (now (works .entry))) (now (trace .entry)) .verdict) ⌝ }
+    ensures { λ _. ⌜ now (index .exit) ≡ verdictIndex (playOf (inputsFrom kind n modulus (now (parents .entry)) (now (starts .entry)) (now (works .entry))) (now (trace .entry)) .verdict) ⌝ }
 {
-    let played = playback::play(Setup { kind, n, modulus }, parents, starts, trace);
+    let played = playback::play(Setup { kind, n, modulus }, parents, starts, works, trace);
     let verdict = played.verdict;
     *agrees = numbers::verdict_agrees(verdict);
     *index = numbers::verdict_index(verdict);

@@ -43,8 +43,8 @@ fn refused(reason: u8, place: usize) -> Said {
     }
 }
 
-fn fresh(setup: Setup, parents: &[u8], starts: &[u8]) -> Answered {
-    let answer = setup.fresh(parents, starts);
+fn fresh(setup: Setup, parents: &[u8], starts: &[u8], works: &[u8]) -> Answered {
+    let answer = setup.fresh(parents, starts, works);
     let state = answer.state;
     let reason = answer.reason;
     if reason == 0 {
@@ -116,12 +116,14 @@ fn setup_of(line: Line) -> Setup {
     }
 }
 
-// A fresh state with its tables one after the other: so many parents, and then the starts.
-fn fresh_from(line: Line, tables: &[u8], parents: usize) -> Answered {
+// A fresh state with its tables one after the other: so many parents, so many starts, and then the work lengths.
+fn fresh_from(line: Line, tables: &[u8], parents: usize, starts: usize) -> Answered {
+    let rest = print::part(tables, parents, tables.len());
     fresh(
         setup_of(line),
         print::part(tables, 0, parents),
-        print::part(tables, parents, tables.len()),
+        print::part(rest, 0, starts),
+        print::part(rest, starts, rest.len()),
     )
 }
 
@@ -133,16 +135,19 @@ fn verdict(found: Verdict) -> Said {
     }
 }
 
-// A play-back, with its tables and the trace one after the other: so many parents, so many starts, and then the trace.
+// A play-back, with its tables and the trace one after the other: so many parents, so many starts, so many work lengths, and then the trace.
 fn play(line: Line, entries: &[u8]) -> Answered {
     let parents = line.head[4] as usize;
     let starts = line.head[5] as usize;
+    let works = line.head[6] as usize;
     let rest = print::part(entries, parents, entries.len());
+    let last = print::part(rest, starts, rest.len());
     let played = playback::play(
         setup_of(line),
         print::part(entries, 0, parents),
         print::part(rest, 0, starts),
-        print::part(rest, starts, rest.len()),
+        print::part(last, 0, works),
+        print::part(last, works, last.len()),
     );
     let state = played.state;
     let found = played.verdict;
@@ -156,8 +161,8 @@ fn brief(state: State, ask: u64, line: Line, tail: &[u8]) -> Answered {
     let b = line.head[2];
     let c = line.head[3];
     match ask {
-        1 => fresh_from(line, tail, tail.len()),
-        10 => fresh_from(line, tail, line.head[4] as usize),
+        1 => fresh_from(line, tail, tail.len(), 0),
+        10 => fresh_from(line, tail, line.head[4] as usize, line.head[5] as usize),
         11 => play(line, tail),
         2 => turn(state, a as usize),
         3 => ready(state),

@@ -4,7 +4,7 @@ use crate::print::Output;
 use lines::Task;
 use machine::State;
 
-// A task's own fields, each after a space, in the order of their numbers in a change: 0 to 8, and 15.
+// A task's fields of 01 and its start, each after a space, in the order of their numbers in a change: 0 to 8, and 15.
 fn show_task(t: Task, out: &mut Output, at: usize) -> usize {
     let mut k = print::next(t.line as u64, out, at);
     k = print::next(t.count as u64, out, k);
@@ -23,14 +23,20 @@ fn show_parents(state: State, out: &mut Output, at: usize) -> usize {
     print::bytes(&parents, out, at)
 }
 
-// Each task's fields, and after them its tallies of moves and of waits, 16 and 17.
+// All that is kept of a task: these fields, its tallies of moves and of waits, 16 and 17, its work length and the moves left, 18 and 19.
+fn show_kept(t: Task, moves: u32, waits: u32, out: &mut Output, at: usize) -> usize {
+    let mut k = show_task(t, out, at);
+    k = print::next(moves as u64, out, k);
+    k = print::next(waits as u64, out, k);
+    k = print::next(t.work as u64, out, k);
+    print::next(t.left as u64, out, k)
+}
+
 fn show_tasks(state: State, out: &mut Output, at: usize) -> usize {
     let mut k = at;
     let mut q = 0;
     while q < 64 {
-        k = show_task(state.tasks[q], out, k);
-        k = print::next(state.moves[q] as u64, out, k);
-        k = print::next(state.waits[q] as u64, out, k);
+        k = show_kept(state.tasks[q], state.moves[q], state.waits[q], out, k);
         q += 1;
     }
     k
@@ -50,7 +56,7 @@ pub(crate) fn show(state: State, out: &mut Output, at: usize) -> usize {
 // How many tasks have a field of that number; a field of the state itself is at 0.
 fn places(field: u64) -> usize {
     match field {
-        0..=8 | 14..=17 => 64,
+        0..=8 | 14..=19 => 64,
         9..=13 => 1,
         _ => 0,
     }
@@ -85,7 +91,9 @@ fn task_with(mut t: Task, field: u64, value: u64) -> Task {
         6 => t.aim = byte,
         7 => t.toggle = byte,
         8 => t.flag = byte,
-        _ => t.start = byte,
+        15 => t.start = byte,
+        18 => t.work = byte,
+        _ => t.left = byte,
     }
     t
 }

@@ -9,7 +9,7 @@
 //     7 N LISTLEN T..           passes, to a list of 2^32 - 1          their number or the refusal, the list
 //     8 N PLACE T..             the first pass from a place            its length and its bytes
 //     9 SHAPE N TABLELEN        a shape, to a table of bytes 255       ok or refused K, the table
-//     10 KIND N R NP NS NW P.. S.. W..    as 1, with so many parents, starts and work lengths (none of these last: NW is 0)
+//     10 KIND N R NP NS NW P.. S.. W..    as 1, with so many parents, starts and work lengths
 //     11 KIND N R NP NS NW P.. S.. W.. B..    a play-back of the bytes B, what it returns is kept    agrees, differs I, or refused K
 //
 // Any other line is answered `bad line` and changes nothing. Standard input is read in blocks. Their bytes go one by one to the line that is being

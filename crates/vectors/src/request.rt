@@ -24,30 +24,32 @@ fn most_after(ask: u64) -> usize {
     match ask {
         1 => MOST_TABLE,
         4 | 7 | 8 => MOST_TURNS,
-        10 => 2 * MOST_TABLE,
-        11 => 2 * MOST_TABLE + MOST_TURNS,
+        10 => 3 * MOST_TABLE,
+        11 => 3 * MOST_TABLE + MOST_TURNS,
         _ => 0,
     }
 }
 
-// Whether a request with tables has the entries that their lengths say, and after them no more than so many bytes of a trace. No table of work
-// lengths is taken.
+// Whether a request with tables has the entries that their lengths say, and after them no more than so many bytes of a trace.
 fn tables_fit(line: Line, trace: u64) -> bool {
     let parents = line.head[4];
     let starts = line.head[5];
-    let work = line.head[6];
+    let works = line.head[6];
     if (MOST_TABLE as u64) < parents {
         return false;
     }
     if (MOST_TABLE as u64) < starts {
         return false;
     }
-    let tables = 7 + parents + starts;
+    if (MOST_TABLE as u64) < works {
+        return false;
+    }
+    let tables = 7 + parents + starts + works;
     let count = line.count as u64;
     if count < tables {
         return false;
     }
-    (work == 0) & (count - tables <= trace)
+    count - tables <= trace
 }
 
 // The number of the request; 0 for a line with too few or too many numbers, or with an entry of a table, a turn or a byte of a trace above 255.

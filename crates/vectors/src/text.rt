@@ -6,8 +6,8 @@ const MOST_BYTES: usize = 1048576;
 
 const MOST_DIGITS: usize = 20;
 
-// The most numbers of a line: those of a request with two tables of 4,096 entries and a trace of 70,000 bytes.
-pub const MOST_NUMBERS: usize = 78199;
+// The most numbers of a line: those of a request with three tables of 4,096 entries and a trace of 70,000 bytes.
+pub const MOST_NUMBERS: usize = 82295;
 
 // The most numbers of a request before its tables or turns.
 const MOST_HEAD: usize = 7;

@@ -87,7 +87,7 @@ fn any_line(random: &mut Random) -> String {
 /// say.
 fn any_tables(random: &mut Random) -> String {
     let lengths = [0; 3].map(|_| if random.once_in(6) { near(random) } else { random.below(4) });
-    let works = if random.once_in(4) { lengths[2] } else { 0 };
+    let works = if random.once_in(2) { lengths[2] } else { 0 };
     let modulus = random.pick(&[0, 3]);
     let n = random.length(1, 3) as u64;
     let (mut numbers, trace) = match random.below(3) {

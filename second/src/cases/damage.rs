@@ -1,7 +1,7 @@
 //! Random damage: fields changed to values in and near their ranges, whole random states in
-//! range, counts that are spread or near their limit, and tallies near theirs.
+//! range, counts that are spread or near their limit, tallies near theirs, and work near its end.
 
-use super::fields::{COUNT, FLAG, LINE, MOVES, TOGGLE, WAITS};
+use super::fields::{COUNT, FLAG, LEFT, LINE, MOVES, TOGGLE, WAITS, WORK};
 use super::fresh::accepted_fresh;
 use super::steps::{any_run, turn_of_ready, turn_of_someone};
 use super::values::{TALLIES, TASK_COUNTS};
@@ -44,7 +44,7 @@ pub fn damage_for_a_while(recorder: &mut Recorder, random: &mut Random) {
 fn any_change(recorder: &Recorder, random: &mut Random) -> (u64, u64, u64) {
     let state = recorder.state();
     let n = recorder.n().clamp(1, 64);
-    let field = random.below(18);
+    let field = random.below(20);
     let task = match field {
         9..=13 => 0,
         _ if random.once_in(5) => random.length(0, 63),
@@ -53,14 +53,15 @@ fn any_change(recorder: &Recorder, random: &mut Random) -> (u64, u64, u64) {
     let value = if random.once_in(2) {
         value_in_range(state, random, field, task)
     } else {
-        value_near_range(state, random, field)
+        value_near_range(state, random, field, task)
     };
     (field, task as u64, value)
 }
 
 /// A value at or just beyond an end of a field's range.
-fn value_near_range(state: &State, random: &mut Random, field: u64) -> u64 {
+fn value_near_range(state: &State, random: &mut Random, field: u64, task: usize) -> u64 {
     let (n, modulus) = (u64::from(state.n), u64::from(state.modulus));
+    let other = |field| field_value(state, field, task);
     match field {
         0 => random.length(10, 19) as u64,
         1 => random.pick(&COUNTS),
@@ -73,6 +74,8 @@ fn value_near_range(state: &State, random: &mut Random, field: u64) -> u64 {
         11 => random.pick(&[0, 1, 2, 3, 4, 254, 255, 256]),
         12 => random.pick(&[0, 1, n.saturating_sub(1), n, n + 1]),
         MOVES | WAITS => random.pick(&TALLIES),
+        WORK => random.pick(&[0, 1, other(LEFT).saturating_sub(1), other(LEFT), 255, 256]),
+        LEFT => random.pick(&[0, 1, 2, other(WORK), other(WORK) + 1, 255, 256]),
         _ => random.pick(&[0, 1, 2, n, 63, 64, 255, 256]),
     }
 }
@@ -87,6 +90,8 @@ fn value_in_range(state: &State, random: &mut Random, field: u64, task: usize) -
         (0, _) => 11 + random.below(8),
         (1, _) => random.pick(&COUNTS).min(MAX_COUNT.into()),
         (MOVES | WAITS, _) => random.pick(&TALLIES).min(MAX_TALLY.into()),
+        (WORK, _) => (field_value(state, LEFT, task) + random.pick(&[0, 1, 2, 255])).clamp(1, 255),
+        (LEFT, _) => 1 + random.below(field_value(state, WORK, task).max(1)),
         (2 | 3, SYMMETRIC) => random.below(u64::from(state.modulus).max(1)),
         (4, SYMMETRIC) => random.next() & random.next() & (u64::MAX >> (64 - n.min(64))),
         (4, TREE) => random.next() & children(state, task),
@@ -226,5 +231,30 @@ fn nearly_full(recorder: &mut Recorder, random: &mut Random, task: usize) {
         let line = counting_line(recorder.state().kind);
         recorder.set(LINE, task, line.into());
         recorder.set(COUNT, task, MAX_COUNT.into());
+    }
+}
+
+/// Work of which few moves are left, of tasks at 11 and elsewhere; for a while none, or too many.
+pub fn near_the_end_of_work(recorder: &mut Recorder, random: &mut Random) {
+    let kind = random.below(4) as u8;
+    let n = random.length(1, 4);
+    let works: Vec<u8> = (0..n).map(|_| random.pick(&[1, 2, 3, 9, 254, 255])).collect();
+    recorder.fresh_works(kind, n, &works);
+    for _ in 0..3 {
+        for (task, &work) in works.iter().enumerate() {
+            if random.once_in(2) {
+                recorder.set(LEFT, task, (1 + random.below(4)).min(work.into()));
+            }
+        }
+        let task = random.length(0, n - 1);
+        let left = if works[task] < 255 { random.pick(&[0, works[task] + 1]) } else { 0 };
+        recorder.with(LEFT, task, left.into(), |recorder| {
+            recorder.ready();
+            recorder.turn(task as u64);
+        });
+        any_run(recorder, random, 60);
+        turn_of_ready(recorder);
+        turn_of_someone(recorder, random);
+        recorder.show();
     }
 }

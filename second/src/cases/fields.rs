@@ -12,3 +12,5 @@ pub const ARRIVALS: u64 = 12;
 pub const START: u64 = 15;
 pub const MOVES: u64 = 16;
 pub const WAITS: u64 = 17;
+pub const WORK: u64 = 18;
+pub const LEFT: u64 = 19;

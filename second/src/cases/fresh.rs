@@ -8,6 +8,7 @@ use crate::recorder::Recorder;
 use crate::schedules::uniform;
 use crate::setup::Setup;
 use crate::starts;
+use crate::works;
 
 /// A setup that is accepted.
 pub fn accepted_setup(random: &mut Random, kind: u8, n: usize) -> Setup {
@@ -23,13 +24,15 @@ pub fn accepted_setup(random: &mut Random, kind: u8, n: usize) -> Setup {
         SYMMETRIC => starts::any(random, n),
         _ => Vec::new(),
     };
-    Setup { kind: kind.into(), n: n as u64, modulus, parents, starts }
+    let works = works::any(random, n);
+    Setup { kind: kind.into(), n: n as u64, modulus, parents, starts, works }
 }
 
-/// A fresh state that is accepted, by request 10 where it has starts, and now and then elsewhere.
+/// A fresh state that is accepted, by request 10 where it has starts or works, and now and then
+/// elsewhere.
 pub fn accepted_fresh(recorder: &mut Recorder, random: &mut Random, kind: u8, n: usize) {
     let setup = accepted_setup(random, kind, n);
-    if setup.starts.is_empty() && !random.once_in(4) {
+    if setup.starts.is_empty() && setup.works.is_empty() && !random.once_in(4) {
         recorder.fresh(setup.kind, setup.n, setup.modulus, &setup.parents);
     } else {
         recorder.fresh_setup(&setup);
@@ -58,7 +61,8 @@ pub fn any_setup(random: &mut Random) -> Setup {
     let modulus = if random.once_in(3) { near(random) } else { fits };
     let parents = any_parents(random, kind, n);
     let starts = any_starts(random, kind, n);
-    Setup { kind, n, modulus, parents, starts }
+    let works = any_works(random, n);
+    Setup { kind, n, modulus, parents, starts, works }
 }
 
 /// A parent table whose length or one of whose entries may be wrong.
@@ -84,4 +88,17 @@ fn any_starts(random: &mut Random, kind: u64, n: u64) -> Vec<u8> {
         starts[task] = random.pick(&[0, n - 1, n, n + 1, 64, 255]);
     }
     starts
+}
+
+/// A work table whose length or one of whose entries may be wrong; half the time there is none.
+fn any_works(random: &mut Random, n: u64) -> Vec<u8> {
+    if random.once_in(2) {
+        return Vec::new();
+    }
+    let length = near_length(random, n.min(65)) as usize;
+    let mut works = works::up_to(random, 3, length);
+    if length > 0 && random.once_in(3) {
+        works[random.length(0, length - 1)] = random.pick(&[0, 0, 1, 254, 255]);
+    }
+    works
 }

@@ -1,6 +1,7 @@
 //! Lines that are no requests, of every sort, and the requests that just still are.
 
 use crate::machine::{Tables, RING, TREE};
+use crate::playback::MAX_TRACE;
 use crate::recorder::{line, Recorder};
 use crate::requests::MAX_LINE;
 use crate::schedules::{cycle, repeat};
@@ -96,6 +97,7 @@ fn largest_numbers(recorder: &mut Recorder) {
         for before in ["0", "0 2", "0 2 3", "0 2 3 0", "0 2 3 0 0", "0 2 3 0 1 0", "0 1 3 0 1 0"] {
             recorder.ask(format!("10 {before} {number}"));
         }
+        recorder.ask(format!("10 2 1 0 0 0 1 {number}"));
         recorder.ask(format!("10 {number} 2 3 0 0 0"));
         recorder.ask(format!("10 0 {number} 3 0 0 0"));
         recorder.ask(format!("10 0 2 {number} 0 0 0"));
@@ -110,6 +112,7 @@ fn largest_number_of_a_play(recorder: &mut Recorder, number: &str) {
         recorder.ask(format!("11 {before}{number}"));
         recorder.ask(format!("11 {before}{number} 0 0"));
     }
+    recorder.ask(format!("11 2 1 0 0 0 1 {number} 0 11 1"));
     recorder.ask(format!("11 {number} 2 0 0 0 0"));
     recorder.ask(format!("11 2 {number} 0 0 0 0"));
     recorder.ask(format!("11 2 2 {number} 0 0 0"));
@@ -148,7 +151,7 @@ fn lengths(recorder: &mut Recorder) {
     recorder.show();
 }
 
-/// Turns, parents, starts and trace bytes of 255 and 256.
+/// Turns, parents, starts, work lengths and trace bytes of 255 and 256.
 fn entries(recorder: &mut Recorder) {
     for entry in [254, 255, 256, 257, 1 << 32, u64::MAX] {
         recorder.ask(line(&[1, 3, 2, 0, 0, entry], &[]));
@@ -165,9 +168,14 @@ fn entries(recorder: &mut Recorder) {
         recorder.ask(line(&[10, 3, 2, 0, 2, 0, 0, entry, 0], &[]));
         recorder.ask(line(&[10, 0, 2, 3, 0, 2, 0, 1, entry], &[]));
         recorder.ask(line(&[10, 0, 2, 3, 0, 2, 0, entry, 1], &[]));
+        recorder.ask(line(&[10, 2, 2, 0, 0, 0, 2, 1, entry], &[]));
+        recorder.ask(line(&[10, 2, 2, 0, 0, 0, 2, entry, 1], &[]));
         recorder.ask(line(&[10, 4, 0, 0, 1, 1, 0, 0, entry], &[]));
+        recorder.ask(line(&[10, 4, 0, 0, 1, 1, 1, 0, 0, entry], &[]));
         recorder.ask(line(&[11, 3, 2, 0, 2, 0, 0, 0, entry, 0, 11, 1], &[]));
         recorder.ask(line(&[11, 0, 2, 3, 0, 2, 0, entry, 1, 0, 11, 1], &[]));
+        recorder.ask(line(&[11, 2, 2, 0, 0, 0, 2, entry, 1, 0, 11, 1], &[]));
+        recorder.ask(line(&[11, 2, 2, 0, 0, 0, 2, 1, entry, 1, 11, 1], &[]));
         for place in 7..10 {
             let mut numbers = [11, 2, 2, 0, 0, 0, 0, 0, 11, 1];
             numbers[place] = entry;
@@ -204,10 +212,14 @@ fn long_schedules(recorder: &mut Recorder) {
     recorder.show();
 }
 
-/// Traces of 70,000 bytes and 70,001; the start table is wrong too, and 12 comes before 8.
+/// Traces of 70,000 bytes and 70,001; the start table is wrong too, and 12 comes before 8. So does
+/// 15, with the shortest trace that is too long.
 fn long_traces(recorder: &mut Recorder) {
-    let starts = vec![0, 2];
-    let setup = Setup { kind: 0, n: 2, modulus: 3, parents: Vec::new(), starts };
+    recorder.fresh(RING.into(), 2, 0, &[]);
+    let setup = Setup { kind: 2, n: 2, works: vec![1, 0], ..Setup::default() };
+    recorder.play(&setup, &repeat(0, MAX_TRACE + 1));
+    recorder.ready();
+    let setup = Setup { n: 2, modulus: 3, starts: vec![0, 2], ..Setup::default() };
     for length in [70_000, 70_001] {
         recorder.fresh(RING.into(), 2, 0, &[]);
         recorder.play(&setup, &repeat(0, length));
@@ -215,7 +227,7 @@ fn long_traces(recorder: &mut Recorder) {
     }
 }
 
-/// Parent and start tables of 4,096 entries and 4,097.
+/// Parent, start and work tables of 4,096 entries and 4,097.
 fn long_tables(recorder: &mut Recorder) {
     for length in [4_095, 4_096, 4_097, 4_098] {
         let table = repeat(0, length);
@@ -229,20 +241,27 @@ fn long_tables(recorder: &mut Recorder) {
         recorder.fresh(RING.into(), 2, 0, &[]);
         recorder.fresh_starts(64, &table);
         recorder.turn(0);
+        recorder.fresh(RING.into(), 2, 0, &[]);
+        recorder.fresh_works(RING, 64, &table);
+        recorder.turn(0);
     }
     let table = &repeat(0, 4_096)[..];
-    recorder.fresh_with(TREE.into(), 64, 0, Tables { parents: table, starts: table });
+    for works in [&[], table] {
+        recorder.fresh_with(TREE.into(), 64, 0, Tables { parents: table, starts: table, works });
+    }
     recorder.show();
     for length in [4_096, 4_097] {
         long_tables_of_a_play(recorder, repeat(0, length));
     }
 }
 
-/// The table as the parents of a tree and as the starts of a symmetric barrier.
+/// The table as the parents of a tree, as the starts of a symmetric barrier and as the work lengths
+/// of a ring.
 fn long_tables_of_a_play(recorder: &mut Recorder, table: Vec<u8>) {
-    let tree = Setup { kind: 3, n: 64, modulus: 0, parents: table.clone(), starts: Vec::new() };
-    let symmetric = Setup { kind: 0, n: 64, modulus: 3, parents: Vec::new(), starts: table };
-    for setup in [tree, symmetric] {
+    let tree = Setup { kind: 3, n: 64, parents: table.clone(), ..Setup::default() };
+    let symmetric = Setup { n: 64, modulus: 3, starts: table.clone(), ..Setup::default() };
+    let ring = Setup { kind: 2, n: 64, works: table, ..Setup::default() };
+    for setup in [tree, symmetric, ring] {
         recorder.fresh(RING.into(), 2, 0, &[]);
         recorder.play(&setup, &[0, 11, 1]);
         recorder.ready();
@@ -264,6 +283,7 @@ fn tables_and_lengths(recorder: &mut Recorder) {
             recorder.ready();
         }
     }
+    works_and_lengths(recorder);
     recorder.fresh(RING.into(), 2, 0, &[]);
     recorder.ask("10 3 2 0 2 0 0");
     recorder.ask("10 3 2 0 2 0 0 0");
@@ -274,6 +294,19 @@ fn tables_and_lengths(recorder: &mut Recorder) {
     for text in ["11 3 2 0 2 0 0", "11 3 2 0 2 0 0 0", "11 3 2 0 2 0 0 0 0 1", "11 2 2 0 0 0"] {
         recorder.ask(text);
         recorder.ready();
+    }
+}
+
+/// The same with work tables, alone and after the others.
+fn works_and_lengths(recorder: &mut Recorder) {
+    for lengths in [[0, 0, 1], [0, 0, 2], [0, 0, 3], [0, 2, 2], [2, 0, 2], [2, 2, 2], [1, 1, 1]] {
+        for entries in 0..=8 {
+            for request in [[10, 2, 2, 0], [10, 0, 2, 3], [11, 2, 2, 0]] {
+                recorder.fresh(RING.into(), 2, 0, &[]);
+                recorder.ask(line(&[&request[..], &lengths].concat(), &repeat(1, entries)));
+                recorder.ready();
+            }
+        }
     }
 }
 
@@ -299,7 +332,20 @@ fn huge_lengths(recorder: &mut Recorder) {
 /// Requests 10 and 11 with lengths whose sum is small once it is cut to 64 bits.
 fn huge_sums(recorder: &mut Recorder) {
     let (half, most) = (1 << 63, u64::MAX);
-    for lengths in [[half, half, 0], [most, 3, 0], [3, most, 0], [most, 1, 0], [1, most, 0]] {
+    for lengths in [
+        [half, half, 0],
+        [most, 3, 0],
+        [3, most, 0],
+        [most, 1, 0],
+        [1, most, 0],
+        [half, 0, half],
+        [0, half, half],
+        [0, 3, most],
+        [0, most, 3],
+        [1, 0, most],
+        [most, 1, 2],
+        [half, half, 2],
+    ] {
         for entries in 0..=3 {
             for request in [10, 11] {
                 let numbers = [&[request, 0, 2, 3][..], &lengths].concat();
@@ -310,7 +356,7 @@ fn huge_sums(recorder: &mut Recorder) {
     recorder.show();
 }
 
-/// Requests 10 and 11 with a work table, of which there is none yet.
+/// Requests 10 and 11 with work tables of other lengths than N, and entries for them or none.
 fn work_tables(recorder: &mut Recorder) {
     recorder.fresh(RING.into(), 3, 0, &[]);
     for works in [1, 2, 3, 4, 64] {
@@ -329,7 +375,7 @@ fn work_tables(recorder: &mut Recorder) {
 /// Fields and tasks of request 6 that aren't there.
 fn missing_fields(recorder: &mut Recorder) {
     recorder.fresh(RING.into(), 3, 0, &[]);
-    for field in (0..=18).chain([255, 256, 1 << 32, u64::MAX]) {
+    for field in (0..=20).chain([255, 256, 1 << 32, u64::MAX]) {
         for task in [0, 1, 63, 64, 255, 256, 1 << 32, u64::MAX] {
             recorder.change(field, task, 1);
         }
@@ -340,7 +386,7 @@ fn missing_fields(recorder: &mut Recorder) {
 
 /// Values that a field's type just holds, and one more.
 fn field_types(recorder: &mut Recorder) {
-    for field in 0..=17 {
+    for field in 0..=19 {
         for value in [255, 256, 511, (1 << 32) - 1, 1 << 32, (1 << 32) + 1, u64::MAX] {
             recorder.change(field, 0, value);
         }

@@ -1,5 +1,5 @@
-//! Play-backs: the named traces whole, changed and cut, traces that are almost right, the refusals
-//! and their order, and the longest traces. Of kind 0 without a start table there are the named
+//! Play-backs: the named traces whole, changed and cut, traces with work tables, traces that are
+//! almost right, the refusals and their order, and the longest traces. Of kind 0 without a start table there are the named
 //! traces alone, whole, cut, or with one byte changed.
 
 use super::fields::{COUNT, LINE, WAITS};
@@ -21,12 +21,21 @@ pub fn cases(recorder: &mut Recorder) {
             almost_right(recorder, &named);
         }
     }
+    for worked in traces::worked() {
+        whole(recorder, &worked);
+        changed(recorder, &worked);
+        cut(recorder, &worked);
+        almost_right(recorder, &worked);
+        early_and_late(recorder, &worked);
+        other_works(recorder, &worked);
+    }
     every_cut(recorder);
     lines_after(recorder);
     several_differences(recorder);
     damaged_before(recorder);
     every_task_count(recorder);
     refused_setups(recorder);
+    refused_works(recorder);
     refused_lengths(recorder);
     longest(recorder);
 }
@@ -40,6 +49,7 @@ fn setup(kind: u8, n: usize) -> Setup {
         modulus: if symmetric { 3 } else { 0 },
         parents: vec![0; if kind == TREE { n } else { 0 }],
         starts: starts::next(if symmetric { n } else { 0 }),
+        works: Vec::new(),
     }
 }
 
@@ -106,6 +116,44 @@ fn almost_right(recorder: &mut Recorder, named: &Named) {
         recorder.play(&named.setup, &trace);
     }
     recorder.ready();
+}
+
+// ---- the traces with a work table ----
+
+/// A task leaves 11 a move too early, as its next triple says or as this one does, or too late.
+fn early_and_late(recorder: &mut Recorder, worked: &Named) {
+    for index in worked.ends_of_work() {
+        let (before, from) = worked.trace.split_at(3 * index);
+        let (triple, after) = from.split_at(3);
+        let early = [triple[0], 12, triple[2]];
+        for trace in [
+            [before, after].concat(),
+            [before, &early, after].concat(),
+            [before, triple, triple, after].concat(),
+        ] {
+            recorder.play(&worked.setup, &trace);
+            recorder.ready();
+        }
+    }
+    recorder.show();
+}
+
+/// The trace without its work table, and with one in which a task's work is a move shorter or
+/// longer.
+fn other_works(recorder: &mut Recorder, worked: &Named) {
+    let works = &worked.setup.works;
+    let mut others = vec![Vec::new()];
+    for (task, &work) in works.iter().enumerate() {
+        for other in [work - 1, work + 1] {
+            let mut works = works.clone();
+            works[task] = other;
+            others.push(works);
+        }
+    }
+    for works in others {
+        recorder.play(&Setup { works, ..worked.setup.clone() }, &worked.trace);
+        recorder.ready();
+    }
 }
 
 // ---- other traces ----
@@ -243,7 +291,7 @@ fn refused_setups(recorder: &mut Recorder) {
         (3, 2, 0, &[0, 0], &[0, 0]),
     ] {
         let (parents, starts) = (parents.to_vec(), starts.to_vec());
-        let setup = Setup { kind, n, modulus, parents, starts };
+        let setup = Setup { kind, n, modulus, parents, starts, works: Vec::new() };
         for trace in [&[][..], &[0, 11, 1], &[0, 12, 1], &[9, 9, 9], &[0], &[0, 11, 1, 0, 12]] {
             recorder.fresh_kind(RING, 2);
             recorder.play(&setup, trace);
@@ -251,6 +299,26 @@ fn refused_setups(recorder: &mut Recorder) {
         }
     }
     recorder.show();
+}
+
+/// 15 for every kind: after 12, before 14, with the same traces.
+fn refused_works(recorder: &mut Recorder) {
+    for kind in 0..=3 {
+        let good = setup(kind, 2);
+        for works in [&[0][..], &[1], &[0, 1], &[1, 0], &[0, 0], &[1, 1, 1], &[1, 1, 0], &[1, 1]] {
+            let worked = Setup { works: works.to_vec(), ..good.clone() };
+            let mut starts = worked.clone();
+            starts.starts.push(0);
+            for trace in [&[][..], &[0, 11, 1], &[9, 9, 9], &[0], &[0, 11, 1, 0, 12]] {
+                for setup in [&worked, &starts] {
+                    recorder.fresh_kind(RING, 2);
+                    recorder.play(setup, trace);
+                    recorder.ready();
+                }
+            }
+        }
+        recorder.show();
+    }
 }
 
 /// 14 for every kind, and what is kept then; lengths of 0 to 9.

@@ -52,13 +52,14 @@ pub fn long_play(recorder: &mut Recorder, random: &mut Random) {
 
 /// Makes an accepted setup one that is refused, for any of its reasons.
 fn refuse(random: &mut Random, setup: &mut Setup) {
-    match random.below(6) {
+    match random.below(7) {
         0 => setup.kind = 4,
         1 => setup.n = random.pick(&[0, 65]),
         2 => setup.modulus = 1,
         3 => setup.parents.push(0),
         4 if !setup.parents.is_empty() => setup.parents[0] = 1,
-        _ => setup.starts.push(setup.n as u8),
+        5 => setup.starts.push(setup.n as u8),
+        _ => setup.works.push(0),
     }
 }
 
@@ -69,7 +70,11 @@ fn play_setup(random: &mut Random) -> Setup {
     }
     let kind = random.below(4) as u8;
     let n = any_task_count(random);
-    accepted_setup(random, kind, n)
+    let mut setup = accepted_setup(random, kind, n);
+    if random.once_in(10) {
+        refuse(random, &mut setup);
+    }
+    setup
 }
 
 /// The tasks that a schedule of the setup may name, at least one.

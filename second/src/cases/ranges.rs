@@ -1,7 +1,7 @@
 //! Every field at and beyond the ends of its range, in used and unused fields, in tasks below N
 //! and from N on.
 
-use super::fields::{MOVES, START, WAITS};
+use super::fields::{LEFT, LINE, MOVES, START, WAITS, WORK};
 use super::values::TALLIES;
 use crate::machine::{FETCH_AND_INCREMENT, RING, SYMMETRIC, TREE};
 use crate::parents;
@@ -23,6 +23,7 @@ pub fn cases(recorder: &mut Recorder) {
     starts_of_another_kind(recorder);
     starts_of_fewer_tasks(recorder);
     tallies_of_fewer_tasks(recorder);
+    works_of_fewer_tasks(recorder);
     parents_of_a_running_tree(recorder);
 }
 
@@ -101,8 +102,8 @@ fn lists(n: u64, task: usize) -> Vec<u64> {
 }
 
 /// Asks for the ranges with one field changed. In range, 255 is no task and refused 9. The last
-/// task's fields are held against a run too, and so are the start and the tallies of the one after
-/// it.
+/// task's fields are held against a run too, and so are the start, the tallies and the work of the
+/// one after it.
 fn probe(recorder: &mut Recorder, field: u64, task: usize, value: u64) {
     let runs = task + 1 == recorder.n() || (task == recorder.n() && field >= START);
     recorder.with(field, task, value, |recorder| {
@@ -114,14 +115,18 @@ fn probe(recorder: &mut Recorder, field: u64, task: usize, value: u64) {
     });
 }
 
-/// One task more, once its line is there.
+/// One task more, once its line and its work are there.
 fn another_task(recorder: &mut Recorder, kind: u8) {
     for n in [1, 3, 63] {
         begin(recorder, kind, n);
-        recorder.change(0, n as u64, 11);
+        recorder.change(LINE, n as u64, 11);
         recorder.ready();
         recorder.change(10, 0, n as u64 + 1);
         recorder.ready();
+        for field in [WORK, LEFT] {
+            recorder.change(field, n as u64, 1);
+            recorder.ready();
+        }
         recorder.run_all(&cycle(n + 1, 2 * n + 2));
         recorder.show();
     }
@@ -164,7 +169,9 @@ fn starts_of_another_kind(recorder: &mut Recorder) {
 fn starts_of_fewer_tasks(recorder: &mut Recorder) {
     recorder.fresh_starts(3, &[2, 1, 2]);
     recorder.change(10, 0, 2);
-    recorder.change(0, 2, 0);
+    for field in [LINE, WORK, LEFT] {
+        recorder.change(field, 2, 0);
+    }
     recorder.ready();
     recorder.change(START, 2, 0);
     recorder.ready();
@@ -183,17 +190,37 @@ fn tallies_of_fewer_tasks(recorder: &mut Recorder) {
         recorder.change(MOVES, 2, 2);
         recorder.change(WAITS, 2, 3);
         recorder.change(10, 0, 2);
-        recorder.change(0, 2, 0);
-        for field in [MOVES, WAITS] {
-            recorder.ready();
-            recorder.turn(0);
-            recorder.run_all(&[0, 1]);
+        for field in [LINE, WORK, LEFT] {
             recorder.change(field, 2, 0);
         }
-        recorder.ready();
-        recorder.run_all(&[0, 1]);
-        recorder.show();
+        cleared(recorder, [MOVES, WAITS]);
     }
+}
+
+/// One task fewer: its work is out of range until the length and the moves left are 0.
+fn works_of_fewer_tasks(recorder: &mut Recorder) {
+    for kind in 0..=3 {
+        for fields in [[WORK, LEFT], [LEFT, WORK]] {
+            recorder.fresh_works(kind, 3, &[1, 2, 3]);
+            recorder.change(10, 0, 2);
+            recorder.change(LINE, 2, 0);
+            cleared(recorder, fields);
+        }
+    }
+}
+
+/// Sets two fields of task 2, which isn't there, to 0 one after the other; then the state is in
+/// range.
+fn cleared(recorder: &mut Recorder, fields: [u64; 2]) {
+    for field in fields {
+        recorder.ready();
+        recorder.turn(0);
+        recorder.run_all(&[0, 1]);
+        recorder.change(field, 2, 0);
+    }
+    recorder.ready();
+    recorder.run_all(&[0, 1]);
+    recorder.show();
 }
 
 /// Lists are held against the children that the parents give now.

@@ -15,6 +15,9 @@ pub fn cases(recorder: &mut Recorder) {
     fresh_start_lengths(recorder);
     fresh_start_entries(recorder);
     fresh_start_order(recorder);
+    fresh_work_lengths(recorder);
+    fresh_work_entries(recorder);
+    fresh_work_order(recorder);
     turns(recorder);
     runs(recorder);
     run_order(recorder);
@@ -127,7 +130,7 @@ fn fresh_order(recorder: &mut Recorder) {
 fn fresh_with_starts(recorder: &mut Recorder, kind: u8, n: usize, starts: &[u8]) {
     let modulus = if kind == SYMMETRIC { 3 } else { 0 };
     let parents = vec![0; if kind == TREE { n } else { 0 }];
-    let tables = Tables { parents: &parents, starts };
+    let tables = Tables { parents: &parents, starts, works: &[] };
     recorder.fresh_with(kind.into(), n as u64, modulus, tables);
 }
 
@@ -196,7 +199,86 @@ fn fresh_start_order(recorder: &mut Recorder) {
         (3, 2, 0, &[0, 0], &[9]),
         (3, 2, 0, &[0, 0], &[]),
     ] {
-        recorder.fresh_with(kind, n, modulus, Tables { parents, starts });
+        recorder.fresh_with(kind, n, modulus, Tables { parents, starts, works: &[] });
+        recorder.ready();
+    }
+    recorder.show();
+}
+
+/// 15 of a fresh state: the length of the work table, for every kind.
+fn fresh_work_lengths(recorder: &mut Recorder) {
+    for kind in [SYMMETRIC, FETCH_AND_INCREMENT, RING, TREE] {
+        for n in [1, 2, 3, 63, 64] {
+            for length in [0, 1, n - 1, n, n + 1, 256 + n] {
+                recorder.fresh_works(kind, n, &vec![1; length]);
+                recorder.ready();
+            }
+        }
+        recorder.show();
+    }
+}
+
+/// 15 of a fresh state: the entries of the work table, for every kind.
+fn fresh_work_entries(recorder: &mut Recorder) {
+    for kind in [SYMMETRIC, FETCH_AND_INCREMENT, RING, TREE] {
+        for n in [1_usize, 2, 3, 64] {
+            for task in [0, n / 2, n - 1] {
+                fresh_work(recorder, kind, n, task);
+            }
+        }
+        recorder.fresh_works(kind, 5, &[4, 1, 255, 2, 254]);
+        recorder.show();
+        for works in [[0, 1, 255, 2, 254], [4, 1, 0, 2, 254], [4, 1, 255, 2, 0], [0; 5]] {
+            recorder.fresh_works(kind, 5, &works);
+            recorder.turn(0);
+        }
+        recorder.show();
+    }
+}
+
+/// Each value near the ends as one task's work length.
+fn fresh_work(recorder: &mut Recorder, kind: u8, n: usize, task: usize) {
+    for work in [0, 1, 2, 254, 255] {
+        let mut works = vec![1; n];
+        works[task] = work;
+        recorder.fresh_works(kind, n, &works);
+        recorder.turn(task as u64);
+        recorder.ready();
+    }
+}
+
+/// The order of 2 to 6, 12 and 15 where two or more apply, and 15 alone beside good tables.
+fn fresh_work_order(recorder: &mut Recorder) {
+    for (kind, n, modulus, [parents, starts, works]) in [
+        (4, 2, 0, [&[][..], &[], &[0]]),
+        (4, 2, 0, [&[], &[], &[1, 0]]),
+        (0, 0, 3, [&[], &[], &[1]]),
+        (0, 65, 3, [&[], &[], &[1; 65]]),
+        (2, 65, 0, [&[], &[], &[0; 65]]),
+        (3, 0, 0, [&[], &[], &[0]]),
+        (0, 2, 2, [&[], &[], &[0, 1]]),
+        (1, 2, 3, [&[], &[], &[1]]),
+        (3, 2, 3, [&[0, 0], &[], &[1, 1, 1]]),
+        (0, 2, 3, [&[0], &[], &[1]]),
+        (2, 2, 0, [&[0, 0], &[], &[0, 0]]),
+        (3, 2, 0, [&[0], &[], &[0, 1]]),
+        (3, 2, 0, [&[], &[], &[1]]),
+        (3, 2, 0, [&[0, 1], &[], &[0, 1]]),
+        (3, 2, 0, [&[1, 0], &[], &[1, 1, 1]]),
+        (0, 2, 3, [&[], &[0], &[0]]),
+        (0, 2, 3, [&[], &[0, 2], &[1, 0]]),
+        (0, 2, 3, [&[], &[0, 0, 0], &[1, 1, 1]]),
+        (1, 2, 0, [&[], &[0, 0], &[0, 1]]),
+        (2, 2, 0, [&[], &[0], &[1]]),
+        (3, 2, 0, [&[0, 0], &[0, 0], &[1, 0]]),
+        (0, 2, 3, [&[], &[1, 0], &[0, 1]]),
+        (0, 2, 3, [&[], &[1, 0], &[1]]),
+        (0, 2, 3, [&[], &[1, 0], &[1, 2]]),
+        (3, 2, 0, [&[0, 0], &[], &[1, 0]]),
+        (3, 2, 0, [&[0, 0], &[], &[1, 2, 3]]),
+        (3, 2, 0, [&[0, 0], &[], &[1, 2]]),
+    ] {
+        recorder.fresh_with(kind, n, modulus, Tables { parents, starts, works });
         recorder.ready();
     }
     recorder.show();

@@ -87,7 +87,7 @@ pub fn closing_turns(mut state: State, schedule: &[u8]) -> Vec<usize> {
 
 /// Runs of a schedule from one state: the whole; then, at each of the first closing turns, cut just
 /// before it, with this turn alone in between, and cut just after it.
-fn cut_runs(recorder: &mut Recorder, schedule: &[u8], begin: impl Fn(&mut Recorder)) {
+pub fn cut_runs(recorder: &mut Recorder, schedule: &[u8], begin: impl Fn(&mut Recorder)) {
     begin(recorder);
     let places = closing_turns(*recorder.state(), schedule);
     recorder.run_all(schedule);

@@ -2,7 +2,7 @@
 
 use super::calls::{any_first_pass, any_passes, any_shape, misspelt};
 use super::damage::{damage, damage_for_a_while, state_in_range};
-use super::damage::{near_full_tallies, near_the_limit, spread_counts};
+use super::damage::{near_full_tallies, near_the_end_of_work, near_the_limit, spread_counts};
 use super::fresh::{accepted_fresh, any_fresh};
 use super::plays::{any_plays, long_play, plays_without_starts};
 use super::steps::{any_run, turn_of_ready, turn_of_someone};
@@ -61,7 +61,7 @@ pub fn requests(recorder: &mut Recorder, random: &mut Random, count: usize) {
 
 /// One random scene.
 fn scene(recorder: &mut Recorder, random: &mut Random) {
-    match random.below(21) {
+    match random.below(22) {
         0..=4 => life(recorder, random),
         5..=7 => state_in_range(recorder, random),
         8 | 9 => near_the_limit(recorder, random),
@@ -73,6 +73,7 @@ fn scene(recorder: &mut Recorder, random: &mut Random) {
         15 => spread_counts(recorder, random),
         16 | 17 => near_full_tallies(recorder, random),
         18 | 19 => any_plays(recorder, random),
+        20 => near_the_end_of_work(recorder, random),
         _ => many_turns(recorder, random),
     }
 }

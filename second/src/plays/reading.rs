@@ -57,7 +57,7 @@ fn other_bytes(plays: &mut Plays) {
     plays.text("refused-1-byte-order-mark", format!("\u{feff}{RING}"));
 }
 
-/// Six digits of each number and of a parent and a start, and five.
+/// Six digits of each number and of a parent, a start and a work length, and five.
 fn digits(plays: &mut Plays) {
     for (setup, place, name) in [
         (RING, 0, "kind"),
@@ -68,6 +68,7 @@ fn digits(plays: &mut Plays) {
         (RING, 5, "works-length"),
         ("3 2 0 2 0 0 0 0", 7, "parent"),
         ("0 2 3 0 2 0 1 0", 7, "start"),
+        ("2 2 0 0 0 2 1 1", 7, "work"),
     ] {
         let mut words: Vec<String> = setup.split(' ').map(String::from).collect();
         words[place] = format!("{:0>6}", words[place]);
@@ -76,6 +77,7 @@ fn digits(plays: &mut Plays) {
     plays.text("agrees-five-digits", "00002 00002 00000 00000 00000 00000");
     plays.text("agrees-parents-of-five-digits", "3 2 0 2 0 0 00000 00000");
     plays.text("agrees-starts-of-five-digits", "0 2 3 0 2 0 00001 00000");
+    plays.text("agrees-works-of-five-digits", "2 2 0 0 0 2 00003 00001");
     plays.text("refused-1-kind-2-to-the-64-and-2", "18446744073709551618 2 0 0 0 0");
     plays.text("refused-1-parent-100000", "3 2 0 2 0 0 0 100000");
 }
@@ -99,6 +101,10 @@ fn other_lengths(plays: &mut Plays) {
     plays.text("refused-1-one-parent-more", "3 2 0 2 0 0 0 0 0");
     plays.text("refused-1-one-start-fewer", "0 2 3 0 2 0 1");
     plays.text("refused-1-one-start-more", "0 2 3 0 2 0 1 0 0");
+    plays.text("refused-1-one-work-fewer", "2 2 0 0 0 2 1");
+    plays.text("refused-1-one-work-more", "2 2 0 0 0 2 1 1 1");
+    plays.text("refused-1-works-length-65536", "2 2 0 0 0 65536");
+    plays.text("refused-1-all-lengths-99999", "0 2 3 99999 99999 99999 0");
     plays.text("refused-1-parents-length-99999", "3 2 0 99999 0 0 0 0");
     plays.text("refused-1-starts-length-65536", "0 2 3 0 65536 0");
     plays.text("refused-1-both-lengths-99999", "0 2 3 99999 99999 0 0");
@@ -106,11 +112,19 @@ fn other_lengths(plays: &mut Plays) {
     plays.text("refused-12-both-tables", "3 2 0 2 2 0 0 0 1 0");
 }
 
-/// A work table, of which there is none yet.
+/// Work tables, alone and after the others: just the numbers that the lengths say, one more and one
+/// fewer.
 fn work_tables(plays: &mut Plays) {
-    plays.text("refused-1-works-length-1", "2 2 0 0 0 1 1");
+    plays.text("refused-15-works-length-1", "2 2 0 0 0 1 1");
     plays.text("refused-1-works-length-1-no-works", "2 2 0 0 0 1");
-    plays.text("refused-1-works-after-starts", "0 2 3 0 2 2 1 0 1 1");
+    plays.text("agrees-works-after-starts", "0 2 3 0 2 2 1 0 1 1");
+    plays.text("refused-1-works-after-starts-one-fewer", "0 2 3 0 2 2 1 0 1");
+    plays.text("refused-1-works-after-starts-one-more", "0 2 3 0 2 2 1 0 1 1 1");
+    plays.text("agrees-works-after-parents", "3 2 0 2 0 2 0 0 1 1");
+    plays.text("refused-1-works-after-parents-one-fewer", "3 2 0 2 0 2 0 0 1");
+    plays.text("refused-1-works-after-parents-one-more", "3 2 0 2 0 2 0 0 1 1 1");
+    // In another order of the tables the works would be starts.
+    plays.text("refused-12-works-before-starts", "0 2 3 0 2 2 3 2 1 0");
 }
 
 /// White space of every sort in texts that are taken.
@@ -122,4 +136,5 @@ fn white_space(plays: &mut Plays) {
     plays.text("agrees-mixed-white-space", "\n 2\n\n2 \n 0  0\n0 \n \n0 \n");
     plays.text("agrees-parents-over-lines", "3 3 0 3 0 0\n0\n\n0 1\n");
     plays.text("agrees-tables-on-lines", "00 03 003\n0 3 0\n\n01 002 00000");
+    plays.text("agrees-works-on-lines", "00 03 003\n0 3 3\n\n01 002 00000\n\n255 1\n\n2");
 }

@@ -31,9 +31,7 @@ fn short(plays: &mut Plays) {
 
 /// The trace of a ring of one task, which never waits.
 fn of_one(turns: usize) -> Vec<u8> {
-    let (parents, starts) = (Vec::new(), Vec::new());
-    let setup = Setup { kind: 2, n: 1, modulus: 0, parents, starts };
-    setup.trace(&repeat(0, turns))
+    Setup { kind: 2, n: 1, ..Setup::default() }.trace(&repeat(0, turns))
 }
 
 /// Traces up to 65,535 bytes, which agree or differ at one triple, and one of 65,536.

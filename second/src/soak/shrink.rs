@@ -61,7 +61,9 @@ fn shorten(
 fn parts(request: &[u8]) -> Vec<Vec<u8>> {
     let words: Vec<&[u8]> = request.split(|&byte| byte == b' ').collect();
     let (first, size) = match words[..] {
-        [b"11", _, _, _, parents, starts, _, ..] => (7 + length(parents) + length(starts), 3),
+        [b"11", _, _, _, parents, starts, works, ..] => {
+            (7 + length(parents) + length(starts) + length(works), 3)
+        }
         _ => (3, 1),
     };
     let (first, rest) = words.split_at(first.min(words.len()));
@@ -131,6 +133,7 @@ fn parts_of_requests() {
         ("4 2 4 0 1", &["4 2 4", "0", "1"]),
         ("11 2 2 0 0 0 0 0 11 1 0 12 1", &["11 2 2 0 0 0 0", "0 11 1", "0 12 1"]),
         ("11 0 2 3 0 2 0 1 0 0 11 1 7", &["11 0 2 3 0 2 0 1 0", "0 11 1", "7"]),
+        ("11 2 2 0 0 0 2 5 6 0 11 1", &["11 2 2 0 0 0 2 5 6", "0 11 1"]),
         ("11 3 2 0 9 0 0 1 2 3", &["11 3 2 0 9 0 0 1 2 3"]),
         ("11 3 2 0 18446744073709551615 1 0 1", &["11 3 2 0 18446744073709551615 1 0 1"]),
         ("11 2 2 0 0 0", &["11 2 2", "0", "0", "0"]),

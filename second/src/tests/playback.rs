@@ -11,6 +11,7 @@ use crate::refusal::Refusal;
 use crate::schedules::{self, repeat};
 use crate::setup::Setup;
 use crate::traces::{self, Named};
+use crate::works;
 use std::collections::HashSet;
 
 // ---- by hand ----
@@ -19,7 +20,7 @@ use std::collections::HashSet;
 fn setup(kind: u8, n: usize) -> Setup {
     let modulus = if kind == 0 { 3 } else { 0 };
     let parents = vec![0; if kind == 3 { n } else { 0 }];
-    Setup { kind: kind.into(), n: n as u64, modulus, parents, starts: Vec::new() }
+    Setup { kind: kind.into(), n: n as u64, modulus, parents, ..Setup::default() }
 }
 
 /// A play-back from a state that says nothing about it.
@@ -153,8 +154,13 @@ fn any_setup(random: &mut Random) -> Setup {
         3 => setup.parents = parents::any(random, n),
         _ => {}
     }
+    if random.once_in(2) {
+        setup.works = works::any(random, n);
+    }
     if random.once_in(20) {
         setup.starts.push(0);
+    } else if random.once_in(20) {
+        setup.works.push(0);
     }
     setup
 }
@@ -221,16 +227,19 @@ fn lengths() {
 #[test]
 fn order_of_a_play_back() {
     let (long, cut) = (repeat(9, 65_537), [9]);
-    let good = Tables { parents: &[0, 0], starts: &[] };
-    for (kind, n, modulus, tables, expected) in [
-        (4, 0, 1, Tables { parents: &[1], starts: &[9] }, 2),
-        (3, 0, 1, Tables { parents: &[1], starts: &[9] }, 3),
-        (3, 2, 1, Tables { parents: &[1], starts: &[9] }, 4),
-        (3, 2, 0, Tables { parents: &[1], starts: &[9] }, 5),
-        (3, 2, 0, Tables { parents: &[0, 1], starts: &[9] }, 6),
-        (3, 2, 0, Tables { parents: &[0, 0], starts: &[0, 0] }, 12),
-        (0, 2, 3, Tables { parents: &[], starts: &[0, 2] }, 12),
+    let good = Tables::of_parents(&[0, 0]);
+    for (kind, n, modulus, [parents, starts, works], expected) in [
+        (4, 0, 1, [&[1][..], &[9], &[0]], 2),
+        (3, 0, 1, [&[1], &[9], &[0]], 3),
+        (3, 2, 1, [&[1], &[9], &[0]], 4),
+        (3, 2, 0, [&[1], &[9], &[0]], 5),
+        (3, 2, 0, [&[0, 1], &[9], &[0]], 6),
+        (3, 2, 0, [&[0, 0], &[0, 0], &[0]], 12),
+        (0, 2, 3, [&[], &[0, 2], &[1, 0]], 12),
+        (3, 2, 0, [&[0, 0], &[], &[0]], 15),
+        (0, 2, 3, [&[], &[0, 1], &[1, 0]], 15),
     ] {
+        let tables = Tables { parents, starts, works };
         for trace in [&long[..], &cut, &[9, 9, 9], &[0, 11, 1], &[]] {
             let mut state = begin(1, 3, 0, &[]);
             let answer = play(&mut state, kind, n, modulus, tables, trace);
@@ -248,7 +257,7 @@ fn order_of_a_play_back() {
 /// Each agrees and closes at least two rounds; it has waits if there is anybody to wait for.
 #[test]
 fn named_traces_have_rounds_and_waits() {
-    for named in traces::all() {
+    for named in traces::all().into_iter().chain(traces::worked()) {
         let (answer, state) = played(&named.setup, &named.trace);
         assert_eq!(answer, Ok(Verdict::Agrees));
         assert!(least(&state) >= 2, "{}", named.name);
@@ -259,9 +268,12 @@ fn named_traces_have_rounds_and_waits() {
 
 #[test]
 fn named_traces_of_every_sort() {
-    let named = traces::all();
-    let names: HashSet<_> = named.iter().map(|named| named.name).collect();
-    assert_eq!(names.len(), named.len());
+    let (named, worked) = (traces::all(), traces::worked());
+    let names: HashSet<_> = named.iter().chain(&worked).map(|named| named.name).collect();
+    assert_eq!(names.len(), named.len() + worked.len());
+    assert!(named.iter().all(|named| named.setup.works.is_empty()));
+    assert!(worked.iter().all(|worked| worked.setup.works.iter().any(|&work| work > 1)));
+    assert!(worked.iter().map(|worked| worked.setup.kind).eq(0..=3));
     for kind in 0..=3 {
         let mut counts = named.iter().filter(|named| named.setup.kind == kind);
         assert!(counts.clone().count() >= 3 && counts.any(|named| named.setup.n == 1));
@@ -277,7 +289,7 @@ fn named_traces_of_every_sort() {
 /// state is then the one before.
 #[test]
 fn changes_are_found() {
-    for named in traces::all() {
+    for named in traces::all().into_iter().chain(traces::worked()) {
         for changed in named.changes() {
             let (answer, state) = played(&named.setup, &changed.trace);
             assert_eq!((answer, state), plain(&named.setup, &changed.trace));

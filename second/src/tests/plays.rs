@@ -19,7 +19,19 @@ fn setups_by_hand() {
         ("2 2 0 0 0", "refused 1\n"),
         ("2 2 0 0 0 0 0", "refused 1\n"),
         ("2 2 0 0 0 1", "refused 1\n"),
-        ("2 2 0 0 0 1 1", "refused 1\n"),
+        ("2 2 0 0 0 1 1", "refused 15\n"),
+        ("2 2 0 0 0 2 1 1", "agrees\n"),
+        ("2 2 0 0 0 2 255 1", "agrees\n"),
+        ("2 2 0 0 0 2 256 1", "refused 15\n"),
+        ("2 2 0 0 0 2 1 99999", "refused 15\n"),
+        ("2 2 0 0 0 2 0 1", "refused 15\n"),
+        ("2 2 0 0 0 2 1", "refused 1\n"),
+        ("2 2 0 0 0 2 1 1 1", "refused 1\n"),
+        ("2 2 0 0 0 99999", "refused 1\n"),
+        ("0 2 3 0 2 2 1 0 3 2", "agrees\n"),
+        ("0 2 3 0 2 2 3 2 1 0", "refused 12\n"),
+        ("0 2 3 0 2 2 1 256 256 1", "refused 12\n"),
+        ("3 2 0 2 0 2 0 0 9 9", "agrees\n"),
         ("2 2 0 0 0 000000", "refused 1\n"),
         ("2 2 0 0 0 0\r\n", "refused 1\n"),
         ("3 2 0 2 0 0 0", "refused 1\n"),
@@ -117,7 +129,7 @@ fn every_answer_is_there() {
     for begin in ["agrees", "differs-0", "differs-1", "differs-21844"] {
         assert!(plays.list().iter().any(|play| play.name.starts_with(begin)), "{begin}");
     }
-    for reason in [1, 2, 3, 4, 5, 6, 8, 12, 14] {
+    for reason in [1, 2, 3, 4, 5, 6, 8, 12, 14, 15] {
         let begin = format!("refused-{reason}-");
         assert!(plays.list().iter().any(|play| play.name.starts_with(&begin)), "{begin}");
     }

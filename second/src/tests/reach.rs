@@ -1,10 +1,11 @@
 //! All states that small barriers reach, with the least count taken off every count. In each:
-//! the counts differ by at most one, a task at 11 isn't ahead, somebody can move, a few passes
-//! raise the least count, and the tallies are the answers that were given on the way there.
+//! the counts differ by at most one, a task at 11 isn't ahead, a task elsewhere has all its work
+//! left, somebody can move, a few passes raise the least count, and the tallies are the answers
+//! that were given on the way there.
 
 use super::starts::nearest;
 use super::tallies::Given;
-use super::{all_rows, begin, begin_starts, least};
+use super::{all_rows, begin, begin_starts, begin_works, least};
 use crate::machine::{in_range, ready, step, turn, Outcome, State};
 use crate::machine::{FETCH_AND_INCREMENT, RING, SYMMETRIC, TREE};
 use std::collections::HashSet;
@@ -16,7 +17,7 @@ fn key(state: &State) -> Vec<u8> {
     let mut key = vec![state.arrivals, state.sense];
     for task in &state.tasks[..n] {
         key.extend([task.line, task.count as u8, task.tag, task.old, task.list as u8]);
-        key.extend([task.looked, task.aim, task.toggle, task.flag]);
+        key.extend([task.looked, task.aim, task.toggle, task.flag, task.left]);
     }
     key
 }
@@ -55,6 +56,7 @@ fn check_barrier(state: &State) {
     for task in &state.tasks[..usize::from(state.n)] {
         assert!(task.count <= 1, "{state:?}");
         assert!(task.line != 11 || task.count == 0, "{state:?}");
+        assert!(task.line == 11 || task.left == task.work, "{state:?}");
     }
 }
 
@@ -71,7 +73,8 @@ fn check_ready(state: &State) {
 fn check_progress(mut state: State) {
     let n = usize::from(state.n);
     let before = least(&state);
-    for _ in 0..20 * n {
+    let work: u8 = state.tasks.iter().map(|task| task.work).sum();
+    for _ in 0..20 * n + usize::from(work) {
         for task in (0..n).rev() {
             let _ = step(&mut state, task);
         }
@@ -80,8 +83,8 @@ fn check_progress(mut state: State) {
 }
 
 /// The state after a turn, and the answers given until then. A wait raises the wait tally and
-/// changes nothing else; a move leaves every start and the other tasks' lines, counts, lists and
-/// tallies alone, and says by how much the least count rose.
+/// changes nothing else; a move leaves every start and work length and the other tasks' lines,
+/// counts, lists, tallies and moves left alone, and says by how much the least count rose.
 fn turned(state: State, task: usize, mut given: Given) -> (State, Given) {
     let mut next = state;
     let outcome = turn(&mut next, task as u64);
@@ -95,7 +98,13 @@ fn turned(state: State, task: usize, mut given: Given) -> (State, Given) {
     let (before, after) = (&state.tasks[task], &next.tasks[task]);
     assert_eq!((before.moves + 1, before.waits), (after.moves, after.waits));
     assert_eq!(u32::from(closed), least(&next) - least(&state), "{state:?}");
-    assert!(next.tasks[task].line != state.tasks[task].line || next.tasks[task].line == 18);
+    assert_eq!(before.work, after.work);
+    if before.line == 11 && before.left > 1 {
+        assert_eq!((after.line, after.left), (11, before.left - 1));
+    } else {
+        assert!(before.line != after.line || after.line == 18);
+        assert_eq!(after.left, after.work);
+    }
     check_look(&state, &next, task);
     assert_eq!(next.tasks[task].start, state.tasks[task].start);
     for other in (0..64).filter(|&other| other != task) {
@@ -105,6 +114,7 @@ fn turned(state: State, task: usize, mut given: Given) -> (State, Given) {
         assert_eq!(before.start, after.start);
         assert_eq!((before.tag, before.old, before.aim), (after.tag, after.old, after.aim));
         assert_eq!((before.moves, before.waits), (after.moves, after.waits));
+        assert_eq!((before.work, before.left), (after.work, after.left));
     }
     (next, given)
 }
@@ -168,6 +178,22 @@ fn tree() {
     for n in 1..=4 {
         for table in all_tables(n) {
             assert!(visit(begin(TREE, n as u64, 0, &table)) > 4);
+        }
+    }
+}
+
+/// Two tasks whose work takes one to three moves, and a few tables of three tasks.
+#[test]
+fn with_work() {
+    for kind in [SYMMETRIC, FETCH_AND_INCREMENT, RING, TREE] {
+        for row in all_rows(3, 2) {
+            let works = [row[0] + 1, row[1] + 1];
+            let states = visit(begin_works(kind, &works));
+            let alone = visit(begin_works(kind, &[1, 1]));
+            assert!((states > alone) == (works != [1, 1]), "{works:?}");
+        }
+        for works in [[2, 1, 3], [1, 4, 1], [3, 2, 2]] {
+            assert!(visit(begin_works(kind, &works)) > 4);
         }
     }
 }

@@ -82,7 +82,7 @@ fn refused_fresh_state_is_zero() {
     assert_eq!(fresh(&mut state, 1, 3, 1, Tables::of_parents(&[])), Err(Refusal::Modulus));
     assert_eq!(state, State::ZERO);
     let mut state = begin_starts(3, &[2, 1, 0]);
-    let tables = Tables { parents: &[], starts: &[2, 1, 3] };
+    let tables = Tables { starts: &[2, 1, 3], ..Tables::default() };
     assert_eq!(fresh(&mut state, 0, 3, 3, tables), Err(Refusal::Starts));
     assert_eq!(state, State::ZERO);
 }

@@ -365,7 +365,7 @@ fn run_stopped_after_rounds() {
 // ---- ranges ----
 
 /// Every call that looks at the ranges refuses the state 7, or none does.
-fn check_range(mut state: State, fits: bool) {
+pub fn check_range(mut state: State, fits: bool) {
     assert_eq!(in_range(&state), fits);
     assert_eq!(number(ready(&state)), if fits { 0 } else { 7 });
     assert_eq!(number(turn(&mut state, 9)), if fits { 9 } else { 7 });

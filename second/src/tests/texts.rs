@@ -64,13 +64,21 @@ fn check_replay(cases: &[(&str, &str)]) {
     }
 }
 
+/// Shows two tasks whose work takes one move each.
+fn one_move_each(fields: &mut [&str]) {
+    for place in [81, 82, 95, 96] {
+        fields[place] = "1";
+    }
+}
+
 #[test]
 fn requests_of_a_state() {
-    let zeros = vec!["0"; 5 + 64 + 64 * 12].join(" ");
-    let mut fields = vec!["0"; 5 + 64 + 64 * 12];
-    for (place, value) in [(0, "1"), (1, "2"), (4, "1"), (69, "12"), (79, "1"), (81, "11")] {
+    let zeros = vec!["0"; 5 + 64 + 64 * 14].join(" ");
+    let mut fields = vec!["0"; 5 + 64 + 64 * 14];
+    for (place, value) in [(0, "1"), (1, "2"), (4, "1"), (69, "12"), (79, "1"), (83, "11")] {
         fields[place] = value;
     }
+    one_move_each(&mut fields);
     let counts = format!("0 1 {}", vec!["0"; 127].join(" "));
     let none = vec!["0"; 129].join(" ");
     check_replay(&[
@@ -116,11 +124,12 @@ fn requests_of_rounds() {
 
 #[test]
 fn requests_of_starts() {
-    let zeros = vec!["0"; 5 + 64 + 64 * 12].join(" ");
-    let mut fields = vec!["0"; 5 + 64 + 64 * 12];
-    for (place, value) in [(0, "0"), (1, "2"), (2, "3"), (69, "11"), (78, "1"), (81, "11")] {
+    let zeros = vec!["0"; 5 + 64 + 64 * 14].join(" ");
+    let mut fields = vec!["0"; 5 + 64 + 64 * 14];
+    for (place, value) in [(0, "0"), (1, "2"), (2, "3"), (69, "11"), (78, "1"), (83, "11")] {
         fields[place] = value;
     }
+    one_move_each(&mut fields);
     check_replay(&[
         ("10 0 2 3 0 2 0 1 0", "0"),
         ("5", &fields.join(" ")),
@@ -145,11 +154,12 @@ fn requests_of_starts() {
 #[test]
 fn requests_of_tallies() {
     let zeros = |length: usize| vec!["0"; length].join(" ");
-    let mut fields = vec!["0"; 5 + 64 + 64 * 12];
-    for (place, value) in [(0, "2"), (1, "2"), (69, "11"), (81, "12"), (91, "1")] {
+    let mut fields = vec!["0"; 5 + 64 + 64 * 14];
+    for (place, value) in [(0, "2"), (1, "2"), (69, "11"), (83, "12"), (93, "1")] {
         fields[place] = value;
     }
-    fields[92] = "4000000000";
+    fields[94] = "4000000000";
+    one_move_each(&mut fields);
     let stopped = format!("stopped 13 1 {} 1 {} 12 0 255 255", zeros(66), zeros(62));
     check_replay(&[
         ("1 2 2 0", "0"),
@@ -179,11 +189,12 @@ fn requests_of_tallies() {
 /// A ring of two whose task 1 waits at 12: what a play-back keeps, and what it doesn't.
 #[test]
 fn requests_of_play_backs() {
-    let zeros = vec!["0"; 5 + 64 + 64 * 12].join(" ");
-    let mut fields = vec!["0"; 5 + 64 + 64 * 12];
-    for (place, value) in [(0, "2"), (1, "2"), (69, "11"), (81, "12"), (91, "1"), (92, "1")] {
+    let zeros = vec!["0"; 5 + 64 + 64 * 14].join(" ");
+    let mut fields = vec!["0"; 5 + 64 + 64 * 14];
+    for (place, value) in [(0, "2"), (1, "2"), (69, "11"), (83, "12"), (93, "1"), (94, "1")] {
         fields[place] = value;
     }
+    one_move_each(&mut fields);
     let fields = fields.join(" ");
     check_replay(&[
         ("11 2 2 0 0 0 0 1 11 1 1 12 0", "agrees"),
@@ -206,8 +217,54 @@ fn requests_of_play_backs() {
         ("11 3 2 0 2 0 0 0 0 0 11 1 0 12 1 0 13 1 0 14 0", "agrees"),
         ("11 3 2 0 2 0 0 0 1 0 11", "refused 6"),
         ("11 2 2 0 0 0 0 1 11 1 1 12 0", "agrees"),
-        ("11 2 2 0 0 0 1 1 11 1", "bad line"),
+        ("11 2 2 0 0 0 2 1", "bad line"),
         ("5", &fields),
+        ("11 2 2 0 0 0 2 1 11", "agrees"),
+        ("11 2 2 0 0 0 1 1 1 11 1", "refused 15"),
+        ("5", &zeros),
+    ]);
+}
+
+/// A ring of two whose work takes three moves and one: what is left, and where that is refused.
+#[test]
+fn requests_of_works() {
+    let zeros = vec!["0"; 5 + 64 + 64 * 14].join(" ");
+    let mut fields = vec!["0"; 5 + 64 + 64 * 14];
+    for (place, value) in [(0, "2"), (1, "2"), (69, "11"), (79, "1"), (81, "3"), (82, "2")] {
+        fields[place] = value;
+    }
+    for (place, value) in [(83, "12"), (93, "1"), (95, "1"), (96, "1")] {
+        fields[place] = value;
+    }
+    let run = format!("done 3 0 3 {} 11 1 11 1 12 1", vec!["0"; 127].join(" "));
+    check_replay(&[
+        ("10 2 2 0 0 0 2 3 1", "0"),
+        ("2 0", "1 0"),
+        ("2 1", "1 0"),
+        ("5", &fields.join(" ")),
+        ("4 3 6 0 0 0", &run),
+        ("6 19 0 0", "ok"),
+        ("3", "refused 7"),
+        ("6 19 0 4", "ok"),
+        ("2 0", "refused 7"),
+        ("6 19 0 1", "ok"),
+        ("3", "task 0"),
+        ("6 18 0 0", "ok"),
+        ("3", "refused 7"),
+        ("6 18 0 255", "ok"),
+        ("6 18 0 256", "bad line"),
+        ("6 19 0 256", "bad line"),
+        ("2 0", "1 0"),
+        ("6 18 2 1", "ok"),
+        ("3", "refused 7"),
+        ("10 2 2 0 0 0 2 0 1", "refused 15"),
+        ("5", &zeros),
+        ("10 2 2 0 0 0 1 1", "refused 15"),
+        ("10 2 2 0 0 2 2 0 0 0 1", "refused 12"),
+        ("11 2 2 0 0 0 2 3 1 0 11 1 0 11 1 0 11 1 0 12 1", "agrees"),
+        ("11 2 2 0 0 0 2 3 1 0 11 1 0 11 1 0 12 1", "differs 2"),
+        ("11 2 2 0 0 0 2 3 1 0 11 1 0 11 1 0 11 1 0 11 1", "differs 3"),
+        ("11 2 2 0 0 0 2 3 0 0 11", "refused 15"),
     ]);
 }
 
@@ -254,7 +311,10 @@ fn bad_lines() {
         "10 0 2 3",
         "10 0 2 3 0 0",
         "10 0 2 3 0 0 1",
-        "10 0 2 3 0 0 1 1",
+        "10 0 2 3 0 0 1 1 1",
+        "10 0 2 3 0 0 2 1",
+        "10 2 1 0 0 0 1 256",
+        "10 2 1 0 0 0 4097",
         "10 0 2 3 0 0 0 0",
         "10 0 2 3 0 2 0 1",
         "10 0 2 3 0 2 0 1 0 0",
@@ -268,8 +328,9 @@ fn bad_lines() {
         "10 0 2 3 0 0 18446744073709551615",
         "11 2 2 0 0 0",
         "11 2 2 0 0 0 1",
-        "11 2 2 0 0 0 1 1",
-        "11 2 2 0 0 0 1 1 0 11 1",
+        "11 2 2 0 0 0 2 1",
+        "11 2 2 0 0 0 1 256 0 11 1",
+        "11 2 2 0 0 0 1 1 0 11 256",
         "11 2 2 0 0 0 0 256 11 1",
         "11 2 2 0 0 0 0 0 11 256",
         "11 3 2 0 2 0 0 0",
@@ -279,7 +340,11 @@ fn bad_lines() {
         "11 0 2 3 18446744073709551615 1 0",
         "11 0 2 3 9223372036854775808 9223372036854775808 0",
         "12 0 2 3 0 0 0",
-        "6 18 0 0",
+        "6 20 0 0",
+        "6 18 64 0",
+        "6 19 64 0",
+        "6 18 0 256",
+        "6 19 0 256",
         "6 16 64 0",
         "6 17 64 0",
         "6 16 0 4294967296",
@@ -313,6 +378,8 @@ fn bad_lines() {
         ("6 15 63 255", "ok"),
         ("6 16 63 4294967295", "ok"),
         ("6 17 63 4294967295", "ok"),
+        ("6 18 63 255", "ok"),
+        ("6 19 63 255", "ok"),
     ]);
 }
 
@@ -336,6 +403,10 @@ fn longest_requests() {
         (&format!("11 3 64 0 4097 0 0 {}", turns(4_097)), "bad line"),
         (&format!("11 0 64 3 0 4096 0 {}", turns(4_096)), "refused 12"),
         (&format!("11 0 64 3 0 4097 0 {}", turns(4_097)), "bad line"),
+        (&format!("10 2 64 0 0 0 4096 {}", turns(4_096)), "refused 15"),
+        (&format!("10 2 64 0 0 0 4097 {}", turns(4_097)), "bad line"),
+        (&format!("11 2 64 0 0 0 4096 {}", turns(4_096)), "refused 15"),
+        (&format!("11 2 64 0 0 0 4097 {}", turns(4_097)), "bad line"),
         (&format!("11 2 2 0 0 0 0 {}", turns(65_535)), "differs 0"),
         (&format!("11 2 2 0 0 0 0 {}", turns(70_000)), "refused 8"),
         (&format!("11 2 2 0 0 0 0 {}", turns(70_001)), "bad line"),

@@ -11,10 +11,10 @@ use Rattle.playback.proofs.play.Statement.{statement}
 use Rattle.playback.proofs.play.Tie as tie
 
 abbrev start : tie.After-fresh → tie.Start
-start c = c .before .before .before .before
+start c = c .before .before .before .before .before
 
 abbrev inputs : tie.After-fresh → Inputs
-inputs c = let a = start c .args in inputsOf (a .setup) (a .parents .now) (a .starts .now)
+inputs c = let a = start c .args in inputsOf (a .setup) (a .parents .now) (a .starts .now) (a .works .now)
 
 reason : (c : tie.After-fresh) → c .fresh .result .reason ≡ freshReason (inputs c)
 reason c = ap (λ (r : Fresh). r .reason) (c .fresh .ensures) ∙ fresh-reason (inputs c)

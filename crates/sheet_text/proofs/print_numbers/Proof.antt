@@ -112,7 +112,7 @@ made c =
     let y = written p in
     let s = begun c in
     c .fresh-state .ensures
-    ∙ ap (λ (ps : List ℕ). freshOf (inputsOf (record { kind = getD (ns s) 0 0; n = getD (ns s) 1 0; modulus = getD (ns s) 2 0 }) ps []))
+    ∙ ap (λ (ps : List ℕ). freshOf (inputsOf (record { kind = getD (ns s) 0 0; n = getD (ns s) 1 0; modulus = getD (ns s) 2 0 }) ps [] []))
     (parents (ns s) (s .pre .0) (buffer y) _ (p .parent-count .result) (filled y) (p .parent-count .ensures))
 
 turned : (c : tie.After-fresh-state) → let k = counted c .parent-count .result in

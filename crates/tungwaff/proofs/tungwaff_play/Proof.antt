@@ -7,8 +7,8 @@ use Rattle.tungwaff.specs.Entry.{inputsFrom}
 use Rattle.tungwaff.proofs.tungwaff_play.Statement.{statement}
 use Rattle.tungwaff.proofs.tungwaff_play.Tie as tie
 
-played : (c : tie.After-play) → let a = c .before .before .before .before .args in
-    c .play .result ≡ playOf (inputsFrom (a .kind) (a .n) (a .modulus) (a .parents .now) (a .starts .now)) (a .trace .now)
+played : (c : tie.After-play) → let a = c .before .before .before .before .before .args in
+    c .play .result ≡ playOf (inputsFrom (a .kind) (a .n) (a .modulus) (a .parents .now) (a .starts .now) (a .works .now)) (a .trace .now)
 played c = c .play .ensures
 
 returns : tie.Need-returns

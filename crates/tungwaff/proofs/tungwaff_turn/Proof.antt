@@ -8,7 +8,7 @@ use Rattle.tungwaff.proofs.tungwaff_turn.Statement.{statement}
 use Rattle.tungwaff.proofs.tungwaff_turn.Tie as tie
 
 abbrev start : tie.After-whole-run-arg → tie.Start
-start c = c .before .before .before .before .before
+start c = c .before .before .before .before .before .before
 
 returns : tie.Need-returns
 unfolding thenTurnReason thenTurnNumber thenTurnClosed

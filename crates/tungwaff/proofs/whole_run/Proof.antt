@@ -11,10 +11,10 @@ use Rattle.tungwaff.proofs.whole_run.Tie as tie
 
 -- the fresh state, of the call's own numbers and tables
 abbrev start : tie.After-fresh → tie.Start
-start c = c .before .before .before .before .before
+start c = c .before .before .before .before .before .before
 
 made : (c : tie.After-fresh) → let a = start c .args in
-    c .fresh .result ≡ freshOf (inputsOf (a .setup) (a .parents .now) (a .starts .now))
+    c .fresh .result ≡ freshOf (inputsOf (a .setup) (a .parents .now) (a .starts .now) (a .works .now))
 made c = c .fresh .ensures
 
 returns : tie.Need-returns

@@ -29,10 +29,12 @@ parents-fit false false n parents h ez e = absurd (omega arith)
 -- ---- a call that is accepted, and what fits its state's fields
 
 abbrev start : tie.Else1 → tie.Start
-start c = c .before .before .before .before
+start c = c .before .before .before .before .before
 
 abbrev inputs : tie.Else1 → Inputs
-inputs c = inputsOf (start c .args .self) (start c .args .parents .now) (start c .args .starts .now)
+inputs c =
+    let a = start c .args in
+    inputsOf (a .self) (a .parents .now) (a .starts .now) (a .works .now)
 
 accepts : (c : tie.Else1) → Accepted (inputs c)
 accepts c = accepted-inputs (inputs c) (sym (c .before .reason .ensures) ∙ c .if1 .left)
@@ -52,14 +54,14 @@ padded-requires c κs = parents-fit (eqb (inputs c .kind) 3) _ (inputs c .n) (in
 fresh-tasks-requires : tie.Need-fresh-tasks-requires
 fresh-tasks-requires c κs = accepts (c .before) .few
 
-cast-t10 : tie.Need-cast-t10
-cast-t10 c = omega (arith, accepts (filled c) .kind)
-
 cast-t11 : tie.Need-cast-t11
-cast-t11 c = omega (arith, accepts (filled (c .before)) .few)
+cast-t11 c = omega (arith, accepts (filled c) .kind)
 
 cast-t12 : tie.Need-cast-t12
-cast-t12 c =
+cast-t12 c = omega (arith, accepts (filled (c .before)) .few)
+
+cast-t13 : tie.Need-cast-t13
+cast-t13 c =
     let e = filled (c .before .before) in
     omega (arith, modulus-fits (eqb (inputs e .kind) 0) (inputs e .modulus) (accepts e .modulus))
 
@@ -73,5 +75,5 @@ returns-2 c =
 pub fresh-spec : {M : Type 1} → statement M
 fresh-spec =
     tie.close
-    (tie.spec (λ c κs. search needs) (λ c κs. search needs) returns padded-requires fresh-tasks-requires cast-t10
-    cast-t11 cast-t12 (λ c κs. search needs) returns-2)
+    (tie.spec (λ c κs. search needs) (λ c κs. search needs) returns padded-requires fresh-tasks-requires cast-t11
+    cast-t12 cast-t13 (λ c κs. search needs) returns-2)

@@ -7,7 +7,8 @@ use Rattle.machine.proofs.State.task_ok.Tie as tie
 returns : tie.Need-returns
 unfolding taskOk
 returns c =
-    let w = c .before .before .before .before in
+    let f7 = c .before .before in
+    let w = f7 .before .before .before .before in
     let l = w .before in
     let f = l .before .before .before in
     rw (
@@ -17,10 +18,10 @@ returns c =
       l .before .field-ok3 .ensures,
       w .within .ensures,
       l .list-room .ensures,
-      c .before .before .before .field-ok4 .ensures,
-      c .before .before .field-ok5 .ensures,
-      c .before .field-ok6 .ensures,
-      c .field-ok7 .ensures,
+      f7 .before .before .before .field-ok4 .ensures,
+      f7 .before .before .field-ok5 .ensures,
+      f7 .before .field-ok6 .ensures,
+      f7 .field-ok7 .ensures,
     )
 
 pub task-ok-spec : {M : Type 1} → statement M
