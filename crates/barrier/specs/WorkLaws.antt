@@ -1,7 +1,7 @@
 -- The claim of 02's P6 holds: a move at 11 leaves one move less and the task there, or it was the last one; and no other turn changes them.
 use mathlib.Core.Path.{_≡_, refl, sym, ap, _∙_, subst}
 use mathlib.Core.List.{List, [], _∷_}
-use Prim.Native.Nat.{ℕ, _+_, _-_, _≤_, _<_}
+use Prim.Native.Nat.{ℕ, _+_, _-_, _<_}
 use native.Mathlib.Omega.{arith}
 use lib.Dec.{ltb}
 use borrow.Author.Tests.{le-ltb, ltb-true, ltb-false}
@@ -19,9 +19,9 @@ use Rattle.machine.specs.TurnLaws.{effect-keeps, turn-constants, turn-work}
 use Rattle.machine.specs.RangeLaws.{range}
 use Rattle.machine.specs.KeepLaws.{turn-valid}
 use Rattle.barrier.specs.Barrier.{Able}
-use Rattle.barrier.specs.Times.{moveAt, timesAt}
-use Rattle.barrier.specs.TimesLaws.{core, Turns, moves, stays, turns}
-use Rattle.barrier.specs.Work.{Stays, afterTurns, Works, Claim}
+use Rattle.barrier.specs.Times.{moveAt}
+use Rattle.barrier.specs.TimesLaws.{Turns, moves, stays, turns}
+use Rattle.barrier.specs.Work.{Stays, Works, Claim}
 
 -- the line and the moves left
 abbrev place : Task → ℕ × ℕ

@@ -13,8 +13,8 @@ mod words;
 pub const MAX_COUNT: u32 = 1_000_000;
 
 // A task of the barrier. Which fields a kind uses is said with their ranges, in machine's specs/Range.antt; the others are 0. The order of the
-// fields is the compiler's: with one gap of 2 bytes it keeps a task in registers (a gap of 5 would put it through memory), and with the fields that
-// a line writes apart from each other it inlines every line into the run's loop, which `bench/check` looks for.
+// fields is chosen for the run: with a gap of 2 bytes the compiler keeps a task in registers (5 would put it through memory), and in this order every
+// line is cheap enough to be inlined into the loop, which `bench/check` looks at. docs/performance.md has what other orders cost.
 pub struct Task {
     pub aim: u8,
     pub toggle: u8,
