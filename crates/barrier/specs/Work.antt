@@ -21,7 +21,7 @@ afterTurns s [] = s
 afterTurns s (q ∷ ts) = afterTurns (turnOf s q .state) ts
 
 pub record Works (p : ℕ) (s : State) (ts : List ℕ) : Type 0 where
-  -- "that many moves there": as many as are left, which are all of them where the task comes to 11 (`AllLeft` in `Barrier`)
+  -- "that many moves there": as many as are left, which are all of them where the task has just come to 11 (`all-left`)
   pub moves : timesAt p 11 s ts ≡ taskAt s p .left
   -- the last of them leads to 12
   pub to : taskAt (afterTurns s ts) p .line ≡ 12

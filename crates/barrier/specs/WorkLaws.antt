@@ -1,6 +1,7 @@
 -- The claim of 02's P6 holds: a move at 11 leaves one move less and the task there, or it was the last one; and no other turn changes them.
 use mathlib.Core.Path.{_≡_, refl, sym, ap, _∙_, subst}
 use mathlib.Core.List.{List, [], _∷_}
+use mathlib.Core.Logic.{_≢_}
 use Prim.Native.Nat.{ℕ, _+_, _-_, _<_}
 use native.Mathlib.Omega.{arith}
 use lib.Dec.{ltb}
@@ -18,7 +19,8 @@ use Rattle.machine.specs.Turn.{effectOf, turnOf}
 use Rattle.machine.specs.TurnLaws.{effect-keeps, turn-constants, turn-work}
 use Rattle.machine.specs.RangeLaws.{range}
 use Rattle.machine.specs.KeepLaws.{turn-valid}
-use Rattle.barrier.specs.Barrier.{Able}
+use Rattle.barrier.specs.View.{viewOf}
+use Rattle.barrier.specs.Barrier.{Able, AllLeft}
 use Rattle.barrier.specs.Times.{moveAt}
 use Rattle.barrier.specs.TimesLaws.{Turns, moves, stays, turns}
 use Rattle.barrier.specs.Work.{Stays, Works, Claim}
@@ -75,6 +77,14 @@ works s ok p known at [] away = absurd (away at)
 works s ok p known at (q ∷ ts) away =
     one-turn s p q ok known at ts (away .1)
     (λ still. works (turnOf s q .state) (turn-valid s q ok) p (subst (λ (n : ℕ). p < n) (sym (turn-constants s q .n)) known) still ts (away .1))
+
+-- after any turn a task that was off 11 has all its moves left, at 11 too: its own move leaves them, and no other turn changes them
+pub all-left : (s : State) (p q : ℕ) → Valid s → AllLeft (viewOf s) → p < s .n → taskAt s p .line ≢ 11 → taskAt (turnOf s q .state) p .left ≡ taskAt s p .work
+all-left s p q ok all known away = go (turns s p q ok)
+  where
+    go : Turns s p q → taskAt (turnOf s q .state) p .left ≡ taskAt s p .work
+    go (moves _ _ _ e) = ap (λ (t : Task). t .left) e ∙ effect-keeps s p .left away ∙ all p known away
+    go (stays _ e) = ap (λ (t : Task). t .left) e ∙ all p known away
 
 -- 01: "Line 11, the task's own work, is one move and leads to 12": so it is where the work length is 1
 pub one-move : (s : State) (p : ℕ) → Valid s → Able s p → taskAt s p .line ≡ 11 → taskAt s p .work ≡ 1 → effectOf s p ≡ effect.moves (withLine (taskAt s p) 12) Nothing

@@ -1,5 +1,5 @@
 -- Every reached state has its barrier's invariant, and so is in range; and what else is said of reached states.
-use mathlib.Core.Path.{_≡_, refl, sym, subst}
+use mathlib.Core.Path.{_≡_, refl, sym, _∙_, subst}
 use mathlib.Core.List.{List, [], _∷_}
 use mathlib.Core.Logic.{_≢_}
 use Prim.Native.Nat.{ℕ, zero, suc, _≤_, _<_}
@@ -10,9 +10,14 @@ use Rattle.machine.specs.Fresh.{Inputs, freshReason, freshState, freshOf}
 use Rattle.machine.specs.FreshLaws.{accepted-inputs, fresh-accepted, fresh-valid}
 use Rattle.machine.specs.Range.{Valid}
 use Rattle.machine.specs.Turn.{turnOf, reasonNumber}
+use Rattle.machine.specs.TurnLaws.{turn-constants}
+use Rattle.machine.specs.KeepLaws.{turn-valid}
 use Rattle.machine.specs.CountLaws.{seven-of-kind-1}
 use Rattle.barrier.specs.Barrier.{Holds}
 use Rattle.barrier.specs.Moves.{fresh-left, keeps-all}
+use Rattle.barrier.specs.Times.{timesAt}
+use Rattle.barrier.specs.Work.{Stays}
+use Rattle.barrier.specs.WorkLaws.{all-left, works}
 use Rattle.increment.specs.Safe.{never-7}
 use Rattle.playback.specs.Playback.{triplesOf, playReason, playOf}
 use Rattle.playback.specs.PlaybackLaws.{play-accepted, play-keeps}
@@ -58,6 +63,14 @@ reached-valid s r = known s r .inv .valid
 -- 02, P6: off line 11 a task has all moves of its work left, and so it has on coming there
 pub reached-left : (s : State) → Reached s → (q : ℕ) → q < s .n → taskAt s q .line ≢ 11 → taskAt s q .left ≡ taskAt s q .work
 reached-left s r = known s r .inv .left
+
+-- 02, P6: "A task stays at 11 until it has made that many moves there": p comes to 11 by a turn of q, and stays there for the turns ts
+pub reached-works : (s : State) → Reached s → (p q : ℕ) → p < s .n → taskAt s p .line ≢ 11 → taskAt (turnOf s q .state) p .line ≡ 11
+    → (ts : List ℕ) → Stays p (turnOf s q .state) ts → timesAt p 11 (turnOf s q .state) ts ≡ taskAt s p .work
+reached-works s r p q below away at ts stays =
+    let k = known s r .inv in
+    let there = subst (λ (n : ℕ). p < n) (sym (turn-constants s q .n)) below in
+    works (turnOf s q .state) (turn-valid s q (k .valid)) p there at ts stays .moves ∙ all-left s p q (k .valid) (k .left) below away
 
 -- 02, P4: so is the state that a play-back gives, unless it is refused; what is said of reached states holds of it
 pub played-reached : (i : Inputs) (trace : List ℕ) → playReason i trace ≡ 0 → Reached (playOf i trace .state)
