@@ -3,7 +3,7 @@ use mathlib.Core.Path.{_≡_}
 use mathlib.Core.List.{List}
 use mathlib.Core.Logic.{_≢_}
 use Prim.Native.Nat.{ℕ, _+_, _*_, _≤_, _<_}
-use lib.Dec.{eqb, leb}
+use lib.Dec.{leb}
 use Rattle.bitset.specs.Choice.{pick}
 use Rattle.lines.specs.declared.Task.{Task}
 use Rattle.lines.specs.declared.Act.the-variants.{Moves}
@@ -44,6 +44,10 @@ Leads s p = taskAt s p .line ≡ 11 → effectOf s p .task .line ≡ 12
 abbrev pub uncounted : ℕ → ℕ → ℕ
 uncounted rise line = pick (leb 12 line) (pick (leb line rise) 1 0) 0
 
+-- how often a task has done its work
+abbrev pub timesDone : ℕ → Task → ℕ
+timesDone rise t = t .count + uncounted rise (t .line)
+
 pub record Barrier (kind : ℕ) : Type 1 where
   -- the invariant: a fresh state has it, and every move keeps it
   pub Inv : View → Type 0
@@ -55,13 +59,10 @@ pub record Barrier (kind : ℕ) : Type 1 where
   pub behind : (s : State) → Holds kind Inv s → (q r : ℕ) → q < s .n → r < s .n → taskAt s q .line ≡ 11 → taskAt s q .count ≤ taskAt s r .count
   -- while the least count is below its limit, some task can move
   pub someone : (s : State) → Holds kind Inv s → least s < maxCount → (p : ℕ) × Able s p
-  -- the line that raises the count: the lines from 12 up to it come after the work and before the rise, and lead to it
+  -- the line that raises the count. How often a task has done its work changes at 11 alone: the lines from 12 up to the rise lead to it, and it counts the work
   pub rise : ℕ
   pub later : 12 ≤ rise
-  pub counts : (s : State) (p : ℕ) → Holds kind Inv s → Able s p
-      → effectOf s p .task .count ≡ taskAt s p .count + pick (eqb (taskAt s p .line) rise) 1 0
-  pub leads : (s : State) (p : ℕ) → Holds kind Inv s → Able s p → taskAt s p .line ≢ 11
-      → uncounted rise (effectOf s p .task .line) + pick (eqb (taskAt s p .line) rise) 1 0 ≡ uncounted rise (taskAt s p .line)
+  pub done : (s : State) (p : ℕ) → Holds kind Inv s → Able s p → taskAt s p .line ≢ 11 → timesDone rise (effectOf s p .task) ≡ timesDone rise (taskAt s p)
   -- a round of task q, with one move of work, has L moves at most, by N and the table; the offset is how far q is in it, by the task itself
   -- but for its toggle and flag, which other tasks write, and the moves left
   pub L : ℕ → List ℕ → ℕ → ℕ

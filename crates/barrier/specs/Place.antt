@@ -26,7 +26,7 @@ use Rattle.machine.specs.Least.{least}
 use Rattle.machine.specs.LeastLaws.{least-le, least-attained}
 use Rattle.barrier.specs.Sum.{sum, sum-le, sum-same, sum-lt, sum-raise, sum-mul}
 use Rattle.barrier.specs.View.{View, viewOf}
-use Rattle.barrier.specs.Barrier.{Able, moved, Holds, uncounted, Barrier}
+use Rattle.barrier.specs.Barrier.{Able, moved, Holds, uncounted, timesDone, Barrier}
 use Rattle.barrier.specs.Moves.{moved-able, by-move, own-after, other-after, able-view}
 
 -- the parent table never changes
@@ -41,13 +41,9 @@ module _ {kind : ℕ} (b : Barrier kind) where
   abbrev placed : ℕ → List ℕ → ℕ → Task → ℕ
   placed n table q t = t .count * b .L n table q + b .offset n table q t
 
-  -- how often it has done its work: as often as is counted, and once more from 12 up to the line that counts it
-  abbrev done : Task → ℕ
-  done t = t .count + uncounted (b .rise) (t .line)
-
   -- 02, P6: the moves of its work beyond the first of each round, and those that it has made at 11 since
   abbrev extra : Task → ℕ
-  extra t = (t .work - 1) * done t + (t .work - t .left)
+  extra t = (t .work - 1) * timesDone (b .rise) t + (t .work - t .left)
 
   -- the part of task q
   abbrev pub part : View → ℕ → ℕ
@@ -110,10 +106,7 @@ module _ {kind : ℕ} (b : Barrier kind) where
 
     -- at other lines the work is as it was
     worked : t .line ≢ 11 → extra (effectOf s p .task) ≡ extra t
-    worked ne =
-        let k = effect-keeps s p in
-        let same : done (effectOf s p .task) ≡ done t = omega (arith, b .counts s p i a, b .leads s p i a ne) in
-        rw (k .length, k .left ne, same)
+    worked ne = let k = effect-keeps s p in rw (k .length, k .left ne, b .done s p i a ne)
 
     own-on : far p t < far p (effectOf s p .task)
     own-on = go (ℕ-discrete (t .line) 11)

@@ -5,7 +5,7 @@ use Rattle.barrier.specs.Barrier.{Barrier}
 use Rattle.increment.specs.Invariant.{Inv}
 use Rattle.increment.specs.Kept.{fresh, keeps}
 use Rattle.increment.specs.Moves.{someone}
-use Rattle.increment.specs.Round.{L, offset, within, skips, counts, leads, own}
+use Rattle.increment.specs.Round.{L, offset, within, skips, done, own}
 use Rattle.increment.specs.Safe.{close, behind}
 
 abbrev pub increment : Barrier 1
@@ -19,8 +19,7 @@ increment =
       someone = someone;
       rise = 13;
       later = omega arith;
-      counts = counts;
-      leads = leads;
+      done = done;
       L = L;
       offset = offset;
       apart = λ n table q t x. (refl, refl, refl);

@@ -13,7 +13,7 @@ use Rattle.machine.specs.declared.State.{State}
 use Rattle.machine.specs.Setters.{taskAt}
 use Rattle.machine.specs.Turn.{effectOf}
 use Rattle.barrier.specs.View.{View, viewOf}
-use Rattle.barrier.specs.Barrier.{Able, Holds, Leads, uncounted}
+use Rattle.barrier.specs.Barrier.{Able, Holds, Leads, timesDone}
 use Rattle.increment.specs.Invariant.{Inv}
 use Rattle.increment.specs.Lines.{by-line}
 
@@ -52,18 +52,11 @@ abbrev placed : Task → ℕ
 placed t = t .count * 5 + offsetOf (t .line)
 
 module _ (s : State) (p : ℕ) (i : Holds 1 Inv s) (a : Able s p) where
-  -- the count rises at 13 alone
-  pub counts : effectOf s p .task .count ≡ taskAt s p .count + pick (eqb (taskAt s p .line) 13) 1 0
-  counts =
-      by-line (λ e. e .task .count ≡ taskAt s p .count + pick (eqb (taskAt s p .line) 13) 1 0) s p (i .kind) a
-      (λ l to left from most. rw l (omega arith)) (λ l. rw l (omega arith)) (λ l last. rw l (omega arith)) (λ l more. rw l (omega arith))
-      (λ l. rw l (omega arith)) (λ l. rw l (omega arith)) (λ l _. rw l (omega arith))
-
-  -- 12 and 13 come between the work and the rise
-  pub leads : taskAt s p .line ≢ 11 → uncounted 13 (effectOf s p .task .line) + pick (eqb (taskAt s p .line) 13) 1 0 ≡ uncounted 13 (taskAt s p .line)
-  leads off =
-      by-line (λ e. uncounted 13 (e .task .line) + pick (eqb (taskAt s p .line) 13) 1 0 ≡ uncounted 13 (taskAt s p .line)) s p (i .kind) a
-      (λ l. absurd (off l)) (λ l. rw l) (λ l last. rw l) (λ l more. rw l) (λ l. rw l) (λ l. rw l) (λ l _. rw l)
+  -- 13 counts the work, and the lines from 12 on lead there
+  pub done : taskAt s p .line ≢ 11 → timesDone 13 (effectOf s p .task) ≡ timesDone 13 (taskAt s p)
+  done off =
+      by-line (λ e. timesDone 13 (e .task) ≡ timesDone 13 (taskAt s p)) s p (i .kind) a
+      (λ l. absurd (off l)) (λ l. rw l) (λ l last. rw l (omega arith)) (λ l more. rw l (omega arith)) (λ l. rw l) (λ l. rw l) (λ l _. rw l)
 
   -- a move that leads on takes the task on by one, and past what it skips
   pub own : Leads s p → placed (effectOf s p .task) ≡ placed (taskAt s p) + 1 + skips (viewOf s) p

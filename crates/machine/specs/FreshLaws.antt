@@ -170,22 +170,22 @@ fresh-parents i a =
         none [] e = all-zeros 64
         none (x ∷ ps) e = absurd (omega arith)
 
--- tallies that are all 0
-zeros-at : (n q : ℕ) → getD {A = ℕ} (replicate n 0) q 0 ≡ 0
-zeros-at zero q = refl
-zeros-at (suc n) zero = refl
-zeros-at (suc n) (suc q) = zeros-at n q
+-- a list of equal numbers has that number everywhere, also past its end where it stands for what is not there
+equal-at : (x n q : ℕ) → getD (replicate n x) q x ≡ x
+equal-at x zero q = refl
+equal-at x (suc n) zero = refl
+equal-at x (suc n) (suc q) = equal-at x n q
 
 fresh-tallies : (n : ℕ) → Tallies n (replicate 64 0)
 fresh-tallies n =
     record {
       long = refl;
-      each = λ q h. rw (zeros-at 64 q) (by-test (λ b. b ≡ true) (ltb q n) (λ _. refl) (λ _. refl));
+      each = λ q h. rw (equal-at 0 64 q) (by-test (λ b. b ≡ true) (ltb q n) (λ _. refl) (λ _. refl));
     }
 
 -- 02, P3: both tallies are "fresh 0"
 pub fresh-tally : (i : Inputs) (q : ℕ) → (movesAt (freshState i) q ≡ 0) × (waitsAt (freshState i) q ≡ 0)
-fresh-tally i q = (zeros-at 64 q, zeros-at 64 q)
+fresh-tally i q = (equal-at 0 64 q, equal-at 0 64 q)
 
 -- 01: "A fresh state is in range"
 pub fresh-valid : (i : Inputs) → freshReason i ≡ 0 → Valid (freshState i)
@@ -271,9 +271,13 @@ module _ (f : ℕ → ℕ) (alike : Alike f) where
         same-list (i .starts) (λ q l. omega (arith, starts-below (i .kind) (i .n) (i .starts) q (a .some) (a .starts), a .few)),
       )
 
+-- the inputs with this work table
+abbrev pub withTable : Inputs → List ℕ → Inputs
+withTable i works = record { kind = i .kind; n = i .n; modulus = i .modulus; parents = i .parents; starts = i .starts; works = works }
+
 -- the inputs with another number for each work length
 abbrev pub withWorks : (ℕ → ℕ) → Inputs → Inputs
-withWorks f i = record { kind = i .kind; n = i .n; modulus = i .modulus; parents = i .parents; starts = i .starts; works = map f (i .works) }
+withWorks f i = withTable i (map f (i .works))
 
 -- a number that is a work length stands for itself, and one that is none for none
 module _ (f : ℕ → ℕ) (alike : (x : ℕ) → isWork (f x) ≡ isWork x) where
@@ -296,19 +300,10 @@ module _ (f : ℕ → ℕ) (alike : (x : ℕ) → isWork (f x) ≡ isWork x) whe
 
 -- ---- a work table of ones
 
--- the inputs with this work table
-abbrev pub withTable : Inputs → List ℕ → Inputs
-withTable i works = record { kind = i .kind; n = i .n; modulus = i .modulus; parents = i .parents; starts = i .starts; works = works }
-
 ones-work : (n : ℕ) → allWork (replicate n 1) ≡ true
 unfolding allWork
 ones-work zero = refl
 ones-work (suc n) = ones-work n
-
-one-at : (n q : ℕ) → workOf (replicate n 1) q ≡ 1
-one-at zero q = refl
-one-at (suc n) zero = refl
-one-at (suc n) (suc q) = one-at n q
 
 ones-reason : (n : ℕ) → worksReason n (replicate n 1) ≡ 0
 ones-reason n = rw (length-replicate {A = ℕ} n 1, eq-eqb n n refl, ones-work n, or-true (eqb n 0))
@@ -317,4 +312,4 @@ ones-reason n = rw (length-replicate {A = ℕ} n 1, eq-eqb n n refl, ones-work n
 pub ones-fresh : (i : Inputs) → freshOf (withTable i (replicate (i .n) 1)) ≡ freshOf (withTable i [])
 unfolding freshOf freshReason
 ones-fresh i =
-    rw (ones-reason (i .n), table-same (i .n) (freshTask (withTable i (replicate (i .n) 1))) (freshTask (withTable i [])) (λ q _. rw (one-at (i .n) q)))
+    rw (ones-reason (i .n), table-same (i .n) (freshTask (withTable i (replicate (i .n) 1))) (freshTask (withTable i [])) (λ q _. rw (equal-at 1 (i .n) q)))

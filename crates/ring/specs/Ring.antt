@@ -5,7 +5,7 @@ use Rattle.barrier.specs.Barrier.{Barrier}
 use Rattle.ring.specs.Invariant.{Inv}
 use Rattle.ring.specs.Kept.{fresh, keeps}
 use Rattle.ring.specs.Moves.{someone}
-use Rattle.ring.specs.Round.{L, offset, within, counts, leads, own}
+use Rattle.ring.specs.Round.{L, offset, within, done, own}
 use Rattle.ring.specs.Safe.{close, behind}
 
 abbrev pub ring : Barrier 2
@@ -19,8 +19,7 @@ ring =
       someone = someone;
       rise = 13;
       later = omega arith;
-      counts = counts;
-      leads = leads;
+      done = done;
       L = L;
       offset = offset;
       apart = λ n table q t x. (refl, refl, refl);

@@ -16,7 +16,7 @@ use Rattle.machine.specs.declared.State.{State}
 use Rattle.machine.specs.Setters.{taskAt}
 use Rattle.machine.specs.Turn.{effectOf}
 use Rattle.machine.specs.RangeLaws.{range}
-use Rattle.barrier.specs.Barrier.{Able, Holds, Leads, uncounted}
+use Rattle.barrier.specs.Barrier.{Able, Holds, Leads, timesDone}
 use Rattle.symmetric.specs.Invariant.{Inv}
 use Rattle.symmetric.specs.Lines.{by-line}
 
@@ -50,17 +50,11 @@ module _ (s : State) (p : ℕ) (i : Holds 0 Inv s) (a : Able s p) where
       let w : withinOf (taskAt s p .list) (allOf (s .n)) ≡ true = rw (i .kind) at (r .tasks p (a .0) .list) in
       omega (arith, within-size 64 (taskAt s p .list) (allOf (s .n)) w, all-size (s .n) (r .few))
 
-  -- the count rises at 12 alone
-  pub counts : effectOf s p .task .count ≡ taskAt s p .count + pick (eqb (taskAt s p .line) 12) 1 0
-  counts =
-      by-line (λ e. e .task .count ≡ taskAt s p .count + pick (eqb (taskAt s p .line) 12) 1 0) s p (i .valid) (i .kind) a
-      (λ l to left from most. rw l (omega arith)) (λ l. rw l (omega arith)) (λ l e. rw l (omega arith)) (λ k l e. rw l (omega arith)) (λ l d. rw l (omega arith))
-
-  -- 12 comes between the work and the rise
-  pub leads : taskAt s p .line ≢ 11 → uncounted 12 (effectOf s p .task .line) + pick (eqb (taskAt s p .line) 12) 1 0 ≡ uncounted 12 (taskAt s p .line)
-  leads off =
-      by-line (λ e. uncounted 12 (e .task .line) + pick (eqb (taskAt s p .line) 12) 1 0 ≡ uncounted 12 (taskAt s p .line)) s p (i .valid) (i .kind) a
-      (λ l. absurd (off l)) (λ l. rw l) (λ l e. rw l) (λ k l e. rw l) (λ l d. rw l)
+  -- 12 counts the work
+  pub done : taskAt s p .line ≢ 11 → timesDone 12 (effectOf s p .task) ≡ timesDone 12 (taskAt s p)
+  done off =
+      by-line (λ e. timesDone 12 (e .task) ≡ timesDone 12 (taskAt s p)) s p (i .valid) (i .kind) a
+      (λ l. absurd (off l)) (λ l. rw l (omega arith)) (λ l e. rw l) (λ k l e. rw l) (λ l d. rw l)
 
   -- how far a task that is t is
   abbrev placed : Task → ℕ

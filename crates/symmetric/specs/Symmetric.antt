@@ -5,7 +5,7 @@ use Rattle.barrier.specs.Barrier.{Barrier}
 use Rattle.symmetric.specs.Invariant.{Inv}
 use Rattle.symmetric.specs.Kept.{fresh, keeps}
 use Rattle.symmetric.specs.Moves.{someone}
-use Rattle.symmetric.specs.Round.{L, offset, within, counts, leads, own}
+use Rattle.symmetric.specs.Round.{L, offset, within, done, own}
 use Rattle.symmetric.specs.Safe.{close, behind}
 
 abbrev pub symmetric : Barrier 0
@@ -19,8 +19,7 @@ symmetric =
       someone = someone;
       rise = 12;
       later = omega arith;
-      counts = counts;
-      leads = leads;
+      done = done;
       L = L;
       offset = offset;
       apart = λ n table q t x. (refl, refl, refl);

@@ -15,7 +15,7 @@ use Rattle.machine.specs.declared.State.{State}
 use Rattle.machine.specs.Setters.{taskAt}
 use Rattle.machine.specs.Range.{tableOf}
 use Rattle.machine.specs.Turn.{effectOf}
-use Rattle.barrier.specs.Barrier.{Able, Holds, Leads, uncounted}
+use Rattle.barrier.specs.Barrier.{Able, Holds, Leads, timesDone}
 use Rattle.tree.specs.Invariant.{Inv}
 use Rattle.tree.specs.TreeRange.{list-size}
 use Rattle.tree.specs.Lines.{by-line}
@@ -68,19 +68,11 @@ module _ (s : State) (p : ℕ) (i : Holds 3 Inv s) (able : Able s p) where
       → children (tableOf s) p - sizeOf (withoutOf (taskAt s p .list) r) ≡ children (tableOf s) p - sizeOf (taskAt s p .list) + 1
   fewer r on = omega (arith, list-size s (i .valid) (i .kind) p (able .0), without-size (taskAt s p .list) r on)
 
-  -- the count rises at 15 alone
-  pub counts : effectOf s p .task .count ≡ taskAt s p .count + pick (eqb (taskAt s p .line) 15) 1 0
-  counts =
-      by-line (λ e. e .task .count ≡ taskAt s p .count + pick (eqb (taskAt s p .line) 15) 1 0) s p (i .valid) (i .kind) able
-      (λ l to left from most. rw l (omega arith)) (λ l. rw l (omega arith)) (λ l z. rw l (omega arith)) (λ k l on. rw l (omega arith)) (λ l up. rw l (omega arith))
-      (λ l z. rw l (omega arith)) (λ l ne. rw l (omega arith)) (λ l w. rw l (omega arith)) (λ l. rw l (omega arith)) (λ l z. rw l (omega arith))
-      (λ k l on. rw l (omega arith))
-
-  -- the lines from 12 to 15 come between the work and the rise
-  pub leads : taskAt s p .line ≢ 11 → uncounted 15 (effectOf s p .task .line) + pick (eqb (taskAt s p .line) 15) 1 0 ≡ uncounted 15 (taskAt s p .line)
-  leads off =
-      by-line (λ e. uncounted 15 (e .task .line) + pick (eqb (taskAt s p .line) 15) 1 0 ≡ uncounted 15 (taskAt s p .line)) s p (i .valid) (i .kind) able
-      (λ l. absurd (off l)) (λ l. rw l) (λ l z. rw l) (λ k l on. rw l) (λ l up. rw l) (λ l z. rw l) (λ l ne. rw l) (λ l w. rw l) (λ l. rw l) (λ l z. rw l) (λ k l on. rw l)
+  -- 15 counts the work, and the lines from 12 on lead there
+  pub done : taskAt s p .line ≢ 11 → timesDone 15 (effectOf s p .task) ≡ timesDone 15 (taskAt s p)
+  done off =
+      by-line (λ e. timesDone 15 (e .task) ≡ timesDone 15 (taskAt s p)) s p (i .valid) (i .kind) able
+      (λ l. absurd (off l)) (λ l. rw l) (λ l z. rw l) (λ k l on. rw l) (λ l up. rw l) (λ l z. rw l (omega arith)) (λ l ne. rw l (omega arith)) (λ l w. rw l) (λ l. rw l) (λ l z. rw l) (λ k l on. rw l)
 
   -- a move that leads on takes the task on by one
   pub own : Leads s p → placed (children (tableOf s) p) (effectOf s p .task) ≡ placed (children (tableOf s) p) (taskAt s p) + 1 + 0

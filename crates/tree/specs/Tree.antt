@@ -5,7 +5,7 @@ use Rattle.barrier.specs.Barrier.{Barrier}
 use Rattle.tree.specs.Invariant.{Inv}
 use Rattle.tree.specs.Kept.{fresh, keeps}
 use Rattle.tree.specs.Moves.{someone}
-use Rattle.tree.specs.Round.{L, offset, within, counts, leads, own}
+use Rattle.tree.specs.Round.{L, offset, within, done, own}
 use Rattle.tree.specs.Safe.{close, behind}
 
 abbrev pub tree : Barrier 3
@@ -19,8 +19,7 @@ tree =
       someone = someone;
       rise = 15;
       later = omega arith;
-      counts = counts;
-      leads = leads;
+      done = done;
       L = L;
       offset = offset;
       apart = λ n table q t x. (refl, refl, refl);
