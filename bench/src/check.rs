@@ -8,6 +8,7 @@ mod cases;
 mod texts;
 mod traces;
 
+use crate::compared::machine::KINDS;
 use crate::compared::random::Random;
 use calls::{Calls, Function};
 use cases::Case;
@@ -29,7 +30,7 @@ const REASONS: [(Function, &[u8]); 6] = [
 pub fn check() -> Result<String, String> {
     let mut calls = Calls::default();
     let mut random = Random::new(1);
-    for (kind, n) in (0..4).flat_map(|kind| (1..=64).map(move |n| (kind, n))) {
+    for (kind, n) in KINDS.into_iter().flat_map(|kind| (1..=64).map(move |n| (kind, n))) {
         for _ in 0..ROUNDS {
             let case = cases::random(&mut random, kind, n);
             check_random(&mut calls, &mut random, &case)?;

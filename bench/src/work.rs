@@ -10,8 +10,13 @@ use crate::measured::{passes, schedules, shapes, sheet};
 pub const TURNS: usize = 65_536;
 
 /// The kinds, by number and name.
-pub const KINDS: [(u8, &str); 4] =
-    [(0, "symmetric"), (1, "fetch-and-increment"), (2, "ring"), (3, "tree")];
+pub const KINDS: [(u8, &str); 5] = [
+    (0, "symmetric"),
+    (1, "fetch-and-increment"),
+    (2, "ring"),
+    (3, "tree"),
+    (4, "centralized"),
+];
 
 /// The manners of a schedule.
 #[derive(Clone, Copy, PartialEq, Eq)]

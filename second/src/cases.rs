@@ -1,6 +1,7 @@
 //! The stored cases: every part in its order, and the files they are written to.
 
 mod calls;
+mod centralized;
 mod damage;
 mod fields;
 mod fresh;
@@ -54,6 +55,7 @@ pub fn stored() -> Recorder {
     tallies::cases(&mut recorder);
     works::cases(&mut recorder);
     playback::cases(&mut recorder);
+    centralized::cases(&mut recorder);
     trees::cases(&mut recorder);
     malformed::cases(&mut recorder);
     long::cases(&mut recorder, &mut random);

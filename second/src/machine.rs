@@ -1,13 +1,21 @@
-//! The barrier machine: the state, the lines of the four kinds, the least count, the ranges of the
+//! The barrier machine: the state, the lines of the five kinds, the least count, the ranges of the
 //! fields, and the calls fresh, turn, ready and run. Every call changes the state in place.
 
 use super::refusal::{check_schedule, check_task_count, Refusal, MAX_TASKS};
 
-/// The four kinds.
+/// The five kinds. The last one is the older centralized form of the second: its arrivals count
+/// down from N, and each task keeps its own sense.
 pub const SYMMETRIC: u8 = 0;
 pub const FETCH_AND_INCREMENT: u8 = 1;
 pub const RING: u8 = 2;
 pub const TREE: u8 = 3;
+pub const CENTRALIZED: u8 = 4;
+
+/// The highest kind. The highest shape of a tree is another limit, which no kind moves.
+const LAST_KIND: u8 = CENTRALIZED;
+
+/// All kinds.
+pub const KINDS: [u8; 5] = [SYMMETRIC, FETCH_AND_INCREMENT, RING, TREE, CENTRALIZED];
 
 /// The highest count.
 pub const MAX_COUNT: u32 = 1_000_000;
@@ -42,6 +50,8 @@ pub struct Task {
     pub flag: u8,
     /// Symmetric: the task from which line 13 looks for the next one.
     pub start: u8,
+    /// Centralized: the task's own sense, which it inverts in every round.
+    pub sense: u8,
 }
 
 impl Task {
@@ -60,6 +70,7 @@ impl Task {
         toggle: 0,
         flag: 0,
         start: 0,
+        sense: 0,
     };
 }
 
@@ -69,7 +80,7 @@ pub struct State {
     pub kind: u8,
     pub n: u8,
     pub modulus: u8,
-    /// Fetch-and-increment: the shared number and the shared bit.
+    /// Fetch-and-increment and centralized: the shared number and the shared bit.
     pub arrivals: u8,
     pub sense: u8,
     /// Tree: each task's parent.
@@ -133,20 +144,25 @@ pub fn fresh(
     state.kind = kind as u8;
     state.n = n as u8;
     state.modulus = modulus as u8;
-    state.sense = u8::from(state.kind == FETCH_AND_INCREMENT);
+    (state.arrivals, state.sense) = match state.kind {
+        FETCH_AND_INCREMENT => (0, 1),
+        CENTRALIZED => (n as u8, 1),
+        _ => (0, 0),
+    };
     state.parents[..tables.parents.len()].copy_from_slice(tables.parents);
     for (number, task) in state.tasks[..n as usize].iter_mut().enumerate() {
         task.line = 11;
         task.start = tables.starts.get(number).copied().unwrap_or(0);
         task.work = tables.works.get(number).copied().unwrap_or(1);
         task.left = task.work;
+        task.sense = u8::from(state.kind == CENTRALIZED);
     }
     Ok(())
 }
 
 /// Checks 2 to 6, then 12 and 15.
 fn check_fresh(kind: u64, n: u64, modulus: u64, tables: Tables) -> Result<(), Refusal> {
-    if kind > u64::from(TREE) {
+    if kind > u64::from(LAST_KIND) {
         return Err(Refusal::Kind);
     }
     let n = check_task_count(n)?;
@@ -254,13 +270,23 @@ fn check_step(state: &State, task: usize) -> Result<(), Refusal> {
     if own.line != counting_line(state.kind) {
         return Ok(());
     }
-    if state.kind == FETCH_AND_INCREMENT && state.arrivals == state.n {
+    if all_arrived(state) {
         return Err(Refusal::Range);
     }
     if own.count == MAX_COUNT {
         return Err(Refusal::CountLimit);
     }
     Ok(())
+}
+
+/// Whether all tasks have arrived already, as far as the kind counts arrivals: up to N, or down
+/// to 0. No fresh state leads a task to its arrival then.
+fn all_arrived(state: &State) -> bool {
+    match state.kind {
+        FETCH_AND_INCREMENT => state.arrivals == state.n,
+        CENTRALIZED => state.arrivals == 0,
+        _ => false,
+    }
 }
 
 /// Check 13, then raises the tally by one.
@@ -276,7 +302,7 @@ fn tally(tally: &mut u32) -> Result<(), Refusal> {
 pub fn counting_line(kind: u8) -> u8 {
     match kind {
         SYMMETRIC => 12,
-        FETCH_AND_INCREMENT | RING => 13,
+        FETCH_AND_INCREMENT | RING | CENTRALIZED => 13,
         _ => 15,
     }
 }
@@ -293,6 +319,7 @@ fn must_wait(state: &State, task: usize) -> bool {
         (RING, 14) => own.toggle == nonzero(task),
         (TREE, 14) => state.tasks[usize::from(own.looked)].flag != 1,
         (TREE, 16) => task != 0 && own.flag != 0,
+        (CENTRALIZED, 16) => state.sense != own.sense,
         _ => false,
     }
 }
@@ -304,7 +331,8 @@ fn carry_out(state: &mut State, task: usize) {
         SYMMETRIC => symmetric(state, task),
         FETCH_AND_INCREMENT => fetch_and_increment(state, task),
         RING => ring(state, task),
-        _ => tree(state, task),
+        TREE => tree(state, task),
+        _ => centralized(state, task),
     }
 }
 
@@ -396,6 +424,34 @@ fn tree(state: &mut State, task: usize) {
         16 => state.tasks[task].line = 17,
         17 => list_children(state, task, 18),
         18 => release(state, task),
+        line => no_such_line(line),
+    }
+}
+
+/// Carries out a line of the centralized barrier.
+fn centralized(state: &mut State, task: usize) {
+    let own = &mut state.tasks[task];
+    match own.line {
+        11 => own_work(own),
+        12 => {
+            own.sense = 1 - own.sense;
+            own.line = 13;
+        }
+        13 => {
+            let before = state.arrivals;
+            state.arrivals -= 1;
+            own.count += 1;
+            own.line = if before == 1 { 14 } else { 16 };
+        }
+        14 => {
+            state.arrivals = state.n;
+            own.line = 15;
+        }
+        15 => {
+            state.sense = own.sense;
+            own.line = 11;
+        }
+        16 => own.line = 11,
         line => no_such_line(line),
     }
 }
@@ -550,11 +606,11 @@ pub fn in_range(state: &State) -> bool {
 
 /// The range of every field that isn't a task's.
 fn shared_in_range(state: &State) -> bool {
-    if state.kind > TREE || check_task_count(u64::from(state.n)).is_err() {
+    if state.kind > LAST_KIND || check_task_count(u64::from(state.n)).is_err() {
         return false;
     }
     let (arrivals, sense) = match state.kind {
-        FETCH_AND_INCREMENT => (state.n, 1),
+        FETCH_AND_INCREMENT | CENTRALIZED => (state.n, 1),
         _ => (0, 0),
     };
     let entries = match state.kind {
@@ -591,10 +647,14 @@ fn highest_fields(state: &State) -> Task {
             highest.line = 15;
             highest.toggle = 1;
         }
-        _ => {
+        TREE => {
             highest.line = 18;
             highest.looked = state.n - 1;
             highest.flag = 1;
+        }
+        _ => {
+            highest.line = 16;
+            highest.sense = 1;
         }
     }
     highest
@@ -630,6 +690,7 @@ fn task_in_range(task: &Task, highest: &Task, list: u64) -> bool {
         && task.toggle <= highest.toggle
         && task.flag <= highest.flag
         && task.start <= highest.start
+        && task.sense <= highest.sense
         && task.list & !list == 0
 }
 

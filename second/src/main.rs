@@ -1,4 +1,4 @@
-//! The second program: the four barriers once more, to hold another program's answers against.
+//! The second program: the five barriers once more, to hold another program's answers against.
 //! This file holds the commands.
 
 mod cases;

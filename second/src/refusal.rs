@@ -14,7 +14,7 @@ pub enum Refusal {
     /// 1: the text of a sheet or of a setup is too long, has another byte, too long a number, or
     /// not the numbers it needs.
     Text,
-    /// 2: the kind, or the shape, isn't 0 to 3.
+    /// 2: the kind isn't 0 to 4, or the shape isn't 0 to 3.
     Kind,
     /// 3: N isn't 1 to 64.
     TaskCount,

@@ -21,7 +21,7 @@ const MAX_LIST: u64 = 131_072;
 const MAX_TABLE: u64 = 4_096;
 
 /// The numbers of a task's fields in request 6. Request 5 shows them in this order.
-pub const TASK_FIELDS: [u64; 14] = [0, 1, 2, 3, 4, 5, 6, 7, 8, 15, 16, 17, 18, 19];
+pub const TASK_FIELDS: [u64; 15] = [0, 1, 2, 3, 4, 5, 6, 7, 8, 15, 16, 17, 18, 19, 20];
 
 /// The answer to a line that is no request.
 const BAD_LINE: &str = "bad line";
@@ -159,7 +159,7 @@ impl Replay {
     fn change(&mut self, field: u64, task: u64, value: u64) -> Option<String> {
         let task = usize::try_from(task).ok()?;
         match field {
-            0..=8 | 15..=19 => change_task(self.state.tasks.get_mut(task)?, field, value)?,
+            0..=8 | 15..=20 => change_task(self.state.tasks.get_mut(task)?, field, value)?,
             9..=13 if task == 0 => *shared_field(&mut self.state, field) = byte(value)?,
             14 => *self.state.parents.get_mut(task)? = byte(value)?,
             _ => return None,
@@ -185,6 +185,7 @@ fn task_fields(task: &Task) -> [u64; TASK_FIELDS.len()] {
         task.waits.into(),
         task.work.into(),
         task.left.into(),
+        task.sense.into(),
     ]
 }
 
@@ -219,7 +220,8 @@ fn change_task(task: &mut Task, field: u64, value: u64) -> Option<()> {
         16 => task.moves = word(value)?,
         17 => task.waits = word(value)?,
         18 => task.work = byte(value)?,
-        _ => task.left = byte(value)?,
+        19 => task.left = byte(value)?,
+        _ => task.sense = byte(value)?,
     }
     Some(())
 }

@@ -2,9 +2,12 @@
 
 use super::refusal::{check_task_count, Refusal};
 
+/// The highest shape. The highest kind is another limit.
+const LAST_SHAPE: u64 = 3;
+
 /// Writes the parents of a shape's tasks 0 to n - 1 to the first n bytes of the table.
 pub fn shape(shape: u64, n: u64, table: &mut [u8]) -> Result<(), Refusal> {
-    if shape > 3 {
+    if shape > LAST_SHAPE {
         return Err(Refusal::Kind);
     }
     let n = check_task_count(n)?;

@@ -1,7 +1,9 @@
 //! Tests: the scope's cases and traps, the refusals, starts, rounds, tallies, play-back, own work,
-//! all reachable states of small barriers, and the texts of the sheet, the play and the replay.
+//! the centralized barrier beside the one it answers like, all reachable states of small barriers,
+//! and the texts of the sheet, the play and the replay.
 
 mod calls;
+mod centralized;
 mod playback;
 mod plays;
 mod reach;
@@ -15,7 +17,7 @@ mod texts;
 mod traps;
 mod works;
 
-use crate::machine::{fresh, turn, Outcome, State, Tables, SYMMETRIC, TREE};
+use crate::machine::{fresh, turn, Outcome, State, Tables, KINDS, SYMMETRIC, TREE};
 use crate::parents;
 use crate::random::Random;
 use crate::refusal::Refusal;
@@ -51,7 +53,7 @@ fn begin_works(kind: u8, works: &[u8]) -> State {
 
 /// A random fresh state of a few tasks.
 fn begin_any(random: &mut Random) -> State {
-    let kind = random.below(4) as u8;
+    let kind = random.pick(&KINDS);
     let n = random.length(1, 9);
     let mut state = match kind {
         SYMMETRIC if random.once_in(2) => begin_starts(3, &schedules::uniform(random, n, n)),

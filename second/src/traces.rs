@@ -3,7 +3,7 @@
 //! stand for it among the stored cases, and a list of them can be printed. Beside the named traces,
 //! which have no work table, there is one with such a table for each kind.
 
-use super::machine::{FETCH_AND_INCREMENT, RING, SYMMETRIC, TREE};
+use super::machine::{CENTRALIZED, FETCH_AND_INCREMENT, RING, SYMMETRIC, TREE};
 use super::schedules::{cycle, each, repeat};
 use super::setup::Setup;
 use std::fmt::Write;
@@ -50,7 +50,7 @@ const RING_OF_ONE: Row = Row {
     shows: "one task, which sets and clears its own toggle",
 };
 
-const ROWS: [Row; 13] = [
+const ROWS: [Row; 15] = [
     Row {
         name: "symmetric-alone",
         kind: SYMMETRIC,
@@ -98,7 +98,7 @@ const ROWS: [Row; 13] = [
         name: "increment-overtaking",
         kind: FETCH_AND_INCREMENT,
         n: 2,
-        schedule: || [0, 0, 0, 0, 1, 1, 1, 0, 1, 0, 1, 1, 1, 1, 1, 0, 0, 0, 0, 0, 1, 0, 1].to_vec(),
+        schedule: overtaking,
         shows: "task 1 enters the second round while task 0 is still in the first",
         ..RING_OF_ONE
     },
@@ -151,10 +151,31 @@ const ROWS: [Row; 13] = [
         shows: "a child that is a parent too",
         ..RING_OF_ONE
     },
+    Row {
+        name: "centralized-alone",
+        kind: CENTRALIZED,
+        schedule: || repeat(0, 16),
+        shows: "one task, whose own sense is inverted in every round",
+        ..RING_OF_ONE
+    },
+    Row {
+        name: "centralized-overtaking",
+        kind: CENTRALIZED,
+        n: 2,
+        schedule: overtaking,
+        shows: "task 1 inverts its sense again while task 0 still waits for the first",
+        ..RING_OF_ONE
+    },
 ];
 
+/// Of two tasks, the last to arrive for the first round arrives for the second while the other
+/// still waits, which then ends that round.
+pub fn overtaking() -> Vec<u8> {
+    [0, 0, 0, 0, 1, 1, 1, 0, 1, 0, 1, 1, 1, 1, 1, 0, 0, 0, 0, 0, 1, 0, 1].to_vec()
+}
+
 /// A row of each kind with a work table.
-const WORKED: [Row; 4] = [
+const WORKED: [Row; 5] = [
     Row {
         name: "symmetric-worked",
         kind: SYMMETRIC,
@@ -191,6 +212,15 @@ const WORKED: [Row; 4] = [
         works: &[4, 2, 3],
         schedule: || each((0..3).rev(), 5).repeat(6),
         shows: "the root works longest",
+        ..RING_OF_ONE
+    },
+    Row {
+        name: "centralized-worked",
+        kind: CENTRALIZED,
+        n: 3,
+        works: &[1, 3, 2],
+        schedule: || each((0..3).rev(), 5).repeat(4),
+        shows: "the last to arrive has the shortest work",
         ..RING_OF_ONE
     },
 ];

@@ -1,7 +1,7 @@
 //! What the four functions that take a schedule are called with.
 
 use crate::answer::Start;
-use crate::compared::machine::{RING, SYMMETRIC, TREE};
+use crate::compared::machine::{KINDS, RING, SYMMETRIC, TREE};
 use crate::compared::random::Random;
 use crate::compared::refusal::MAX_TURNS;
 use crate::compared::schedules;
@@ -76,7 +76,7 @@ pub fn damaged(random: &mut Random, case: &Case) -> Case {
 fn damage(random: &mut Random, case: &mut Case) {
     let Case { start, log, pairs, .. } = case;
     match random.below(11) {
-        0 => start.kind = random.pick(&[0, 1, 2, 3, 4, 5, 255, 256, 259, 1 << 32, usize::MAX]),
+        0 => start.kind = random.pick(&[0, 1, 2, 3, 4, 5, 255, 256, 260, 1 << 32, usize::MAX]),
         1 => start.n = random.pick(&[0, 1, 63, 64, 65, 255, 256, 257, 320, 1 << 32, usize::MAX]),
         2 => start.modulus = random.pick(&[0, 1, 2, 3, 255, 256, 259, 1 << 32, usize::MAX]),
         3 => start.parents.resize(random.length(0, 70), random.below(256) as u8),
@@ -110,7 +110,7 @@ fn damage_work(random: &mut Random, works: &mut [u8]) {
 /// Schedules of the most turns and of one more; logs, lists, tasks, start and work tables at their limits on both sides.
 pub fn at_limits() -> Vec<Case> {
     let mut cases = Vec::new();
-    for kind in 0..4 {
+    for kind in KINDS {
         for n in [1, 12, 64] {
             let least = least(kind, n);
             cases.extend([MAX_TURNS, MAX_TURNS + 1].map(|turns| long(&least, turns)));

@@ -12,6 +12,7 @@ use Rattle.lines.specs.Symmetric.{symmetricLine}
 use Rattle.lines.specs.Increment.{incrementLine}
 use Rattle.lines.specs.Ring.{ringLine}
 use Rattle.lines.specs.Tree.{treeGather, treeMeet, treeRelease}
+use Rattle.lines.specs.Centralized.{centralizedLine}
 use Rattle.machine.specs.declared.Move.the-variants.{Moved, Waited}
 use Rattle.machine.specs.declared.Outcome.{Outcome}
 use Rattle.machine.specs.declared.Outcome.the-variants.{Made}
@@ -29,7 +30,7 @@ use lib.Count.{trailingZeros}
 
 -- Every definition that the cases compute by: a proof that unfolds this one unfolds them.
 unfoldable pub computing : ℕ
-unfolding least lowest freshOf freshReason turnOf stepOf effectOf checkState stateOk tasksOk taskOk taskZero allBelow symmetricLine incrementLine ringLine treeGather treeMeet treeRelease table withinDigits put firstOf trailingZeros entriesOk checkOf childrenBelow namesAll passesFrom pairsFrom unknownAt passesAnswer pairsAfter shapeTable shapeOf tableAfter
+unfolding least lowest freshOf freshReason turnOf stepOf effectOf checkState stateOk tasksOk taskOk taskZero allBelow symmetricLine incrementLine ringLine treeGather treeMeet treeRelease centralizedLine table withinDigits put firstOf trailingZeros entriesOk checkOf childrenBelow namesAll passesFrom pairsFrom unknownAt passesAnswer pairsAfter shapeTable shapeOf tableAfter
 computing = 0
 
 abbrev pub setup : ℕ → ℕ → ℕ → Setup

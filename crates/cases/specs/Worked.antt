@@ -53,7 +53,7 @@ pub record Worked : Type 0 where
   -- each of them is logged 11 and 1
   pub log : logAfter two (replicate 4 0) 4 (replicate 8 9) ≡ 11 ∷ 1 ∷ 11 ∷ 1 ∷ 11 ∷ 1 ∷ 12 ∷ 1 ∷ []
   -- the longest work: 255 moves
-  pub longest : (working 254 (taskWith 0 255) ≡ withLeft (taskWith 0 255) 1) × (working 255 (taskWith 0 255) ≡ withLine (taskWith 0 255) 12)
+  pub longest : (working 254 (taskWith 0 255 0) ≡ withLeft (taskWith 0 255 0) 1) × (working 255 (taskWith 0 255 0) ≡ withLine (taskWith 0 255 0) 12)
   -- 15 on both sides, for every kind, and after 12
   pub lengths : map (reason 2 2 0 [] []) ([] ∷ (1 ∷ []) ∷ (1 ∷ 255 ∷ []) ∷ (1 ∷ 1 ∷ 1 ∷ []) ∷ (0 ∷ 1 ∷ []) ∷ (1 ∷ 0 ∷ []) ∷ []) ≡ 0 ∷ 15 ∷ 0 ∷ 15 ∷ 15 ∷ 15 ∷ []
   pub kinds : (reason 0 1 3 [] [] (0 ∷ []) ≡ 15) × (reason 1 1 0 [] [] (0 ∷ []) ≡ 15) × (reason 3 1 0 (0 ∷ []) [] (0 ∷ []) ≡ 15)

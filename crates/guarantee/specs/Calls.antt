@@ -63,13 +63,15 @@ Close s = (q r : ℕ) → q < s .n → r < s .n → taskAt s q .count ≤ taskAt
 abbrev pub Behind : State → Type 0
 Behind s = (q r : ℕ) → q < s .n → r < s .n → taskAt s q .line ≡ 11 → taskAt s q .count ≤ taskAt s r .count
 
--- demand 3: "M is N(2N+3) symmetric, 5N fetch-and-increment and ring, 10N − 3 tree": with one move of work in a round
+-- demand 3: "M is N(2N+3) symmetric, 5N fetch-and-increment and ring, 10N − 3 tree": with one move of work in a round.
+-- 02, P7: "M is as for kind 1", for kind 4.
 abbrev pub M₁ : State → ℕ
 M₁ s =
     pick (eqb (s .kind) 0) (s .n * (2 * s .n + 3))
     (pick (eqb (s .kind) 1) (5 * s .n)
     (pick (eqb (s .kind) 2) (5 * s .n)
-    (pick (eqb (s .kind) 3) (10 * s .n - 3) 0)))
+    (pick (eqb (s .kind) 3) (10 * s .n - 3)
+    (pick (eqb (s .kind) 4) (5 * s .n) 0))))
 
 -- 02, P6: "the sum of all work lengths less N"
 abbrev pub W : State → ℕ

@@ -3,6 +3,8 @@
 -- them.
 pub mod Calls
 pub mod Turns
+pub mod Answers
+pub mod CountsDown
 pub mod Instance
 pub mod Reach
 pub mod Guarantee

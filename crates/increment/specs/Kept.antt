@@ -9,10 +9,10 @@ use Rattle.bitset.specs.ChoiceLaws.{by-test}
 use Rattle.lines.specs.declared.Task.{Task}
 use Rattle.lines.specs.Setters.{withLine, withAim, withLeft}
 use Rattle.lines.specs.Common.{raised}
-use Rattle.lines.specs.Increment.{negated}
+use Rattle.lines.specs.Common.{negated}
 use Rattle.machine.specs.declared.State.{State}
 use Rattle.machine.specs.Setters.{taskAt, withTask}
-use Rattle.machine.specs.Fresh.{Inputs, freshReason, freshTask, freshState}
+use Rattle.machine.specs.Fresh.{Inputs, freshReason, freshTask, freshState, hasSense, freshArrivals}
 use Rattle.machine.specs.Turn.{written}
 use Rattle.machine.specs.RangeLaws.{range, below}
 use Rattle.machine.specs.FreshLaws.{fresh-at, accepted-inputs}
@@ -30,11 +30,14 @@ pub fresh : (i : Inputs) → freshReason i ≡ 0 → i .kind ≡ 1 → Inv (view
 fresh i e k =
     record {
       c = 0;
-      phase = gathering (record { few = accepted-inputs i e .some; total = omega (arith, zeros, sum-const (i .n) 0); each = each });
+      phase = gathering (record { few = omega (arith, none, accepted-inputs i e .some); total = omega (arith, none, zeros, sum-const (i .n) 0); each = each });
     }
   where
     t : ℕ → Task
     t = taskAt (freshState i)
+
+    none : freshArrivals (i .kind) (i .n) ≡ 0
+    none = rw k
 
     zeros : sum (i .n) (λ q. t q .count) ≡ sum (i .n) (λ q. 0)
     zeros = sum-same (i .n) (λ q. t q .count) (λ q. 0) (λ q h. rw (fresh-at (i .n) q (freshTask i) h))
@@ -169,7 +172,7 @@ keeps s p i a =
     phase = i .inv .phase
 
     two : s .sense < 2
-    two = below (eqb (s .kind) 1) 2 (s .sense) (rw (i .kind)) (range s (i .valid) .sense)
+    two = below (hasSense (s .kind)) 2 (s .sense) (rw (i .kind)) (range s (i .valid) .sense)
 
     puts : {b : Task} → Puts (taskAt s) p b (taskAt (withTask s p b))
     puts {b} = stored s p b (i .valid) h

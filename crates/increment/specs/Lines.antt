@@ -9,8 +9,8 @@ use Rattle.lines.specs.declared.Task.{Task}
 use Rattle.lines.specs.declared.Effect.{Effect}
 use Rattle.lines.specs.declared.Write.the-variants.{Nothing, Arrivals, Sense}
 use Rattle.lines.specs.Setters.{withLine, withAim}
-use Rattle.lines.specs.Common.{moves, raised}
-use Rattle.lines.specs.Increment.{negated, increment13}
+use Rattle.lines.specs.Common.{negated, moves, raised}
+use Rattle.lines.specs.Increment.{increment13}
 use Rattle.lines.specs.LineLaws.{by-increment}
 use Rattle.machine.specs.declared.State.{State}
 use Rattle.machine.specs.Setters.{taskAt}

@@ -1,4 +1,4 @@
--- What the lines of the four barriers have in common.
+-- What the lines of the five barriers have in common.
 use mathlib.Core.Bool.{Bool}
 use Prim.Native.Nat.{ℕ, _+_, _-_}
 use lib.Dec.{eqb, ltb}
@@ -14,6 +14,10 @@ use Rattle.lines.specs.Setters.{withLine, withCount, withList, withLooke
 -- "Count: 0 to 1,000,000."
 abbrev pub maxCount : ℕ
 maxCount = 1000000
+
+-- "not sense": the other of 0 and 1
+abbrev pub negated : ℕ → ℕ
+negated b = pick (eqb b 0) 1 0
 
 -- "moved (its line was carried out)": the task as it is then, and the shared word that is written
 abbrev pub moves : Task → Write → Effect

@@ -6,11 +6,7 @@ use Rattle.lines.specs.declared.Task.{Task}
 use Rattle.lines.specs.declared.Effect.{Effect}
 use Rattle.lines.specs.declared.Write.the-variants.{Nothing, Arrivals, Sense}
 use Rattle.lines.specs.Setters.{withLine, withAim}
-use Rattle.lines.specs.Common.{moves, waits, refuses, awaits, raised, counts, work}
-
--- "not sense"
-abbrev pub negated : ℕ → ℕ
-negated b = pick (eqb b 0) 1 0
+use Rattle.lines.specs.Common.{negated, moves, waits, refuses, awaits, raised, counts, work}
 
 -- 12: "aim := not sense; to 13."
 abbrev pub increment12 : ℕ → Task → Effect

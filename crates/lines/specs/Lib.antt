@@ -5,6 +5,7 @@ pub mod Symmetric
 pub mod Increment
 pub mod Ring
 pub mod Tree
+pub mod Centralized
 pub mod Words
 pub mod Rule
 pub mod LineLaws

@@ -2,7 +2,7 @@
 use mathlib.Core.Path.{_≡_, refl, ap}
 use mathlib.Core.Bool.{Bool, _||_, not}
 use mathlib.Core.List.{List}
-use mathlib.Core.Logic.{_≢_}
+use mathlib.Core.Logic.{_≢_, _⊎_, inl, inr}
 use Prim.Native.Nat.{ℕ, _+_, _≤_, _<_}
 use native.Mathlib.Omega.{arith}
 use lib.Dec.{eqb, leb, ltb}
@@ -19,6 +19,7 @@ use Rattle.lines.specs.Symmetric.{symmetric12, symmetric13, symmetric14,
 use Rattle.lines.specs.Increment.{increment12, increment13, increment14, increment15, increment16, incrementLine}
 use Rattle.lines.specs.Ring.{nz, ring12, ring13, ring14, ring15, ringLine}
 use Rattle.lines.specs.Tree.{tree11, tree12, tree13, tree14, tree15, tree16, tree17, tree18, treeGather, treeMeet, treeRelease, treeLine}
+use Rattle.lines.specs.Centralized.{centralized12, centralized13, centralized14, centralized15, centralized16, centralizedLine}
 use Rattle.lines.specs.Rule.{effectFrom}
 
 -- ---- by cases
@@ -29,10 +30,11 @@ pub by-kind : (P : Effect → Type 0) (s : Shared) (table : List ℕ) (p : ℕ) 
     → (s .kind ≡ 1 → P (incrementLine (own .line) (s .n) (s .arrivals) (s .sense) own))
     → (s .kind ≡ 2 → P (ringLine (own .line) (s .n) p own))
     → (s .kind ≡ 3 → P (treeLine (own .line) table p (seen .flag) own))
+    → (s .kind ≡ 4 → P (centralizedLine (own .line) (s .n) (s .arrivals) (s .sense) own))
     → P (waits own)
     → P (effectFrom s table p own seen)
-by-kind P s table p own seen symmetric increment ring tree rest =
-    of-kind 0 symmetric (of-kind 1 increment (of-kind 2 ring (of-kind 3 tree rest)))
+by-kind P s table p own seen symmetric increment ring tree centralized rest =
+    of-kind 0 symmetric (of-kind 1 increment (of-kind 2 ring (of-kind 3 tree (of-kind 4 centralized rest))))
   where
     of-kind : (k : ℕ) {e f : Effect} → (s .kind ≡ k → P e) → P f → P (pick (eqb (s .kind) k) e f)
     of-kind k h g = by-test P (eqb (s .kind) k) (λ e. h (eqb-true (s .kind) k e)) (λ _. g)
@@ -75,15 +77,23 @@ module _ (P : Effect → Type 0) (line : ℕ) (t : Task) where
       (λ b. at-line 14 l14 (at-line 15 l15 (at-line 16 l16 (λ h. rest (λ k. omega (arith, h k, leb-true line 16 b))))) (λ k. omega (arith, leb-false line 13 a)))
       (λ b. at-line 17 l17 (at-line 18 l18 rest) (λ k. omega (arith, leb-false line 16 b))))
 
+  pub by-centralized : ((11 ≤ line → 16 < line) → P (waits t)) → (line ≡ 11 → P (work t)) → (n arrivals sense : ℕ)
+      → (line ≡ 12 → P (centralized12 t)) → (line ≡ 13 → P (centralized13 arrivals t)) → (line ≡ 14 → P (centralized14 n t))
+      → (line ≡ 15 → P (centralized15 t)) → (line ≡ 16 → P (centralized16 sense t))
+      → P (centralizedLine line n arrivals sense t)
+  unfolding centralizedLine
+  by-centralized rest l11 n arrivals sense l12 l13 l14 l15 l16 =
+      at-line 11 l11 (at-line 12 l12 (at-line 13 l13 (at-line 14 l14 (at-line 15 l15 (at-line 16 l16 rest))))) (λ h. h)
+
 -- ---- what every line does
 
--- A line moves and keeps the count, moves and raises it by one from below its limit, waits, or is refused: 7 in kind 1 alone, and 11 at the
--- limit alone. What waits or is refused leaves the task as it was and writes nothing.
+-- A line moves and keeps the count, moves and raises it by one from below its limit, waits, or is refused: 7 in the kinds 1 and 4 alone, and 11
+-- at the limit alone. What waits or is refused leaves the task as it was and writes nothing.
 pub data Does (s : Shared) (t : Task) : Effect → Type 0 where
   keeps : {u : Task} {w : Write} → u .count ≡ t .count → Does s t (moves u w)
   raises : {u : Task} {w : Write} → t .count < maxCount → u .count ≡ t .count + 1 → Does s t (moves u w)
   stays : Does s t (waits t)
-  refused-7 : s .kind ≡ 1 → Does s t (refuses 7 t)
+  refused-7 : (s .kind ≡ 1) ⊎ (s .kind ≡ 4) → Does s t (refuses 7 t)
   refused-11 : maxCount ≤ t .count → Does s t (refuses 11 t)
 
 pub does : (s : Shared) (table : List ℕ) (p : ℕ) (t seen : Task) → Does s t (effectFrom s table p t seen)
@@ -92,13 +102,16 @@ does s table p t seen =
     (λ _. by-symmetric D (t .line) t (λ _. stays) (λ _. worked) (s .n) (s .modulus) (seen .tag)
     (λ _. counted (λ l. raises l refl)) (λ _. either (eqb (t .list) 0) (keeps refl) (keeps refl)) (λ _. either (not (eqb (seen .tag) (t .old))) (keeps refl) stays))
     (λ k. by-increment D (t .line) t (λ _. stays) (λ _. worked) (s .n) (s .arrivals) (s .sense)
-    (λ _. keeps refl) (λ _. either (leb (s .n) (s .arrivals)) (refused-7 k) (counted (λ l. raises l refl))) (λ _. keeps refl) (λ _. keeps refl)
+    (λ _. keeps refl) (λ _. either (leb (s .n) (s .arrivals)) (refused-7 (inl k)) (counted (λ l. raises l refl))) (λ _. keeps refl) (λ _. keeps refl)
     (λ _. either (eqb (s .sense) (t .aim)) (keeps refl) stays))
     (λ _. by-ring D (t .line) t (λ _. stays) (λ _. worked) (s .n) p
     (λ _. either (eqb (t .toggle) (nz p)) (keeps refl) stays) (λ _. counted (λ l. raises l refl)) (λ _. either (not (eqb (t .toggle) (nz p))) (keeps refl) stays) (λ _. keeps refl))
     (λ _. by-tree D (t .line) t (λ _. stays) (λ _. worked) table p (seen .flag)
     (λ _. keeps refl) (λ _. either (eqb (t .list) 0) (keeps refl) (keeps refl)) (λ _. either (eqb (seen .flag) 1) (keeps refl) stays) (λ _. counted (λ l. raises l refl))
     (λ _. either (eqb p 0 || eqb (t .flag) 0) (keeps refl) stays) (λ _. keeps refl) (λ _. either (eqb (t .list) 0) (keeps refl) (keeps refl)))
+    (λ k. by-centralized D (t .line) t (λ _. stays) (λ _. worked) (s .n) (s .arrivals) (s .sense)
+    (λ _. keeps refl) (λ _. either (eqb (s .arrivals) 0) (refused-7 (inr k)) (counted (λ l. raises l refl))) (λ _. keeps refl) (λ _. keeps refl)
+    (λ _. either (eqb (s .sense) (t .own)) (keeps refl) stays))
     stays
   where
     D : Effect → Type 0
@@ -134,6 +147,9 @@ kept s table p t seen =
     (λ _. by-tree K (t .line) t (λ _. waited) at-11 table p (seen .flag)
     (λ l. off (omega arith) refl) (λ l. either (eqb (t .list) 0) (off (omega arith) refl) (off (omega arith) refl)) (λ l. either (eqb (seen .flag) 1) (off (omega arith) refl) (off (omega arith) refl)) (λ l. either (ltb (t .count) maxCount) (off (omega arith) refl) (off (omega arith) refl))
     (λ l. either (eqb p 0 || eqb (t .flag) 0) (off (omega arith) refl) (off (omega arith) refl)) (λ l. off (omega arith) refl) (λ l. either (eqb (t .list) 0) (off (omega arith) refl) (off (omega arith) refl)))
+    (λ _. by-centralized K (t .line) t (λ _. waited) at-11 (s .n) (s .arrivals) (s .sense)
+    (λ l. off (omega arith) refl) (λ l. by-test K (eqb (s .arrivals) 0) (λ _. off (omega arith) refl) (λ _. either (ltb (t .count) maxCount) (off (omega arith) refl) (off (omega arith) refl))) (λ l. off (omega arith) refl) (λ l. off (omega arith) refl)
+    (λ l. either (eqb (s .sense) (t .own)) (off (omega arith) refl) (off (omega arith) refl)))
     waited
   where
     K : Effect → Type 0

@@ -1,4 +1,4 @@
-// What the lines of the four barriers have in common. specs/Common.antt defines each.
+// What the lines of the five barriers have in common. specs/Common.antt defines each.
 use crate::Act;
 use crate::Effect;
 use crate::MAX_COUNT;
@@ -10,6 +10,13 @@ ghost use Rattle.bitset.specs.Set.{leastOf, firstOf};
 ghost use Rattle.lines.specs.Setters.{withLine, withCount};
 ghost use Rattle.lines.specs.declared.Write.the-variants.{Nothing};
 ghost use Rattle.lines.specs.Common as defs;
+
+// The other of 0 and 1.
+pub(crate) fn negated(b: u8) -> u8
+    ensures { λ r. ⌜ r ≡ defs.negated b ⌝ }
+{
+    if b == 0 { 1 } else { 0 }
+}
 
 // A move: the task as it is then, and the shared word that is written.
 pub(crate) fn moves(task: Task, write: Write) -> Effect

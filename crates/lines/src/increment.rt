@@ -8,18 +8,11 @@ ghost use lib.Dec.{eqb};
 ghost use Rattle.bitset.specs.Choice.{pick};
 ghost use Rattle.lines.specs.Increment as defs;
 
-// The other of 0 and 1.
-fn negated(b: u8) -> u8
-    ensures { λ r. ⌜ r ≡ defs.negated b ⌝ }
-{
-    if b == 0 { 1 } else { 0 }
-}
-
 // 12: the aim is the sense that the round ends with.
 fn line12(sense: u8, mut task: Task) -> Effect
     ensures { λ r. ⌜ r ≡ defs.increment12 sense task ⌝ }
 {
-    task.aim = negated(sense);
+    task.aim = common::negated(sense);
     common::to(task, 13)
 }
 

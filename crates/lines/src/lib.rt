@@ -1,6 +1,7 @@
 // A task, and what each line of each barrier does to it: small values in, an effect out. What a line does is defined in specs/, and the
-// modules here follow its files: `common` (what the lines share), the four barriers, `rule` (which of them applies) and `words` (what is written).
+// modules here follow its files: `common` (what the lines share), the five barriers, `rule` (which of them applies) and `words` (what is written).
 // Every function is total.
+pub mod centralized;
 mod common;
 pub mod increment;
 pub mod ring;
@@ -28,6 +29,7 @@ pub struct Task {
     pub old: u8,
     pub tag: u8,
     pub line: u8,
+    pub own: u8,
 }
 
 // What a line may read besides tasks and parents: the kind, the number of tasks, and the words that all share.

@@ -2,6 +2,7 @@
 use crate::Effect;
 use crate::Shared;
 use crate::Task;
+use crate::centralized;
 use crate::common;
 use crate::increment;
 use crate::ring;
@@ -21,6 +22,7 @@ pub fn effect_of(shared: Shared, table: &[u8], task: usize, own: Task, seen: Tas
         1 => increment::line(own.line, shared.n, shared.arrivals, shared.sense, own),
         2 => ring::line(own.line, shared.n, task, own),
         3 => tree::line(own.line, table, task, seen.flag, own),
-        4..=255 => common::waits(own),
+        4 => centralized::line(own.line, shared.n, shared.arrivals, shared.sense, own),
+        5..=255 => common::waits(own),
     }
 }

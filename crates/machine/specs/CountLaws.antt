@@ -86,27 +86,31 @@ abbrev pub Goes : Outcome → Type 0
 Goes (Made how) = Unit {0}
 Goes (Refused k) = ⊥
 
--- a line refuses 7, in kind 1, or 11, at a count's limit
-line-refuses : (s : State) (p k : ℕ) → effectOf s p .act ≡ Refuses k → ((k ≡ 7) × (s .kind ≡ 1)) ⊎ ((k ≡ 11) × (maxCount ≤ taskAt s p .count))
+-- the kinds whose tasks arrive by a shared number: 7 at line 13 is theirs
+abbrev pub CountsArrivals : State → Type 0
+CountsArrivals s = (s .kind ≡ 1) ⊎ (s .kind ≡ 4)
+
+-- a line refuses 7, in the kinds 1 and 4, or 11, at a count's limit
+line-refuses : (s : State) (p k : ℕ) → effectOf s p .act ≡ Refuses k → ((k ≡ 7) × CountsArrivals s) ⊎ ((k ≡ 11) × (maxCount ≤ taskAt s p .count))
 line-refuses s p k = go (effectOf s p) (effect-does s p)
   where
-    go : (e : Effect) → Does (sharedOf s) (taskAt s p) e → e .act ≡ Refuses k → ((k ≡ 7) × (s .kind ≡ 1)) ⊎ ((k ≡ 11) × (maxCount ≤ taskAt s p .count))
+    go : (e : Effect) → Does (sharedOf s) (taskAt s p) e → e .act ≡ Refuses k → ((k ≡ 7) × CountsArrivals s) ⊎ ((k ≡ 11) × (maxCount ≤ taskAt s p .count))
     go _ (keeps c) e = let z : _≡_ {A = ℕ} 0 1 = cc in absurd (omega arith)
     go _ (raises l c) e = let z : _≡_ {A = ℕ} 0 1 = cc in absurd (omega arith)
     go _ stays e = let z : _≡_ {A = ℕ} 0 1 = cc in absurd (omega arith)
     go _ (refused-7 one) e = let same : 7 ≡ k = cc in inl (sym same, one)
     go _ (refused-11 l) e = let same : 11 ≡ k = cc in inr (sym same, l)
 
--- in a state in range a turn of a known task is refused only 7, in kind 1, 11, at a count's limit, or 13, at a tally's
+-- in a state in range a turn of a known task is refused only 7, in the kinds 1 and 4, 11, at a count's limit, or 13, at a tally's
 pub data Why (s : State) (p : ℕ) : ℕ → Type 0 where
-  seven : s .kind ≡ 1 → Why s p 7
+  seven : CountsArrivals s → Why s p 7
   eleven : maxCount ≤ taskAt s p .count → Why s p 11
   thirteen : Full (effectOf s p .act) (movesAt s p) (waitsAt s p) → Why s p 13
 
 pub turn-why : (s : State) (p k : ℕ) → Valid s → p < s .n → turnOf s p .outcome ≡ Refused k → Why s p k
 turn-why s p k ok h e = go (refusal-acts s p k ok h e)
   where
-    line : ((k ≡ 7) × (s .kind ≡ 1)) ⊎ ((k ≡ 11) × (maxCount ≤ taskAt s p .count)) → Why s p k
+    line : ((k ≡ 7) × CountsArrivals s) ⊎ ((k ≡ 11) × (maxCount ≤ taskAt s p .count)) → Why s p k
     line (inl w) = subst (Why s p) (sym (w .0)) (seven (w .1))
     line (inr w) = subst (Why s p) (sym (w .0)) (eleven (w .1))
 
@@ -124,7 +128,7 @@ turn-refusals s p k ok h e = go (turn-why s p k ok h e)
 
 -- so it goes where none of them applies
 pub turn-goes : (s : State) (p : ℕ) → Valid s → p < s .n → taskAt s p .count < maxCount → movesAt s p < maxTally → waitsAt s p < maxTally
-    → (s .kind ≡ 1 → reasonNumber (turnOf s p .outcome) ≢ 7) → Goes (turnOf s p .outcome)
+    → (CountsArrivals s → reasonNumber (turnOf s p .outcome) ≢ 7) → Goes (turnOf s p .outcome)
 turn-goes s p ok h low room-m room-w none = go (turnOf s p .outcome) refl
   where
     roomy : (a : Act) → Full a (movesAt s p) (waitsAt s p) → ⊥
@@ -153,14 +157,14 @@ seven-acts s p ok h = go (turnOf s p .outcome) refl
     go (Made how) e z = absurd (omega arith)
     go (Refused k) e z = line k z (refusal-acts s p k ok h e)
 
--- and so of kind 1
-pub seven-of-kind-1 : (s : State) (p : ℕ) → Valid s → reasonNumber (turnOf s p .outcome) ≡ 7 → s .kind ≡ 1
-seven-of-kind-1 s p ok = split (decLt p (s .n))
+-- and so of a kind that counts arrivals
+pub seven-arrives : (s : State) (p : ℕ) → Valid s → reasonNumber (turnOf s p .outcome) ≡ 7 → CountsArrivals s
+seven-arrives s p ok = split (decLt p (s .n))
   where
-    kind : ((_≡_ {A = ℕ} 7 7) × (s .kind ≡ 1)) ⊎ ((_≡_ {A = ℕ} 7 11) × (maxCount ≤ taskAt s p .count)) → s .kind ≡ 1
+    kind : ((_≡_ {A = ℕ} 7 7) × CountsArrivals s) ⊎ ((_≡_ {A = ℕ} 7 11) × (maxCount ≤ taskAt s p .count)) → CountsArrivals s
     kind (inl w) = w .1
     kind (inr w) = absurd (omega (arith, w .0))
 
-    split : Dec (p < s .n) → reasonNumber (turnOf s p .outcome) ≡ 7 → s .kind ≡ 1
+    split : Dec (p < s .n) → reasonNumber (turnOf s p .outcome) ≡ 7 → CountsArrivals s
     split (yes h) = λ e. kind (line-refuses s p 7 (seven-acts s p ok h e))
     split (no h) = rw (turn-unknown s p ok (omega arith)) (λ e. absurd (omega arith))

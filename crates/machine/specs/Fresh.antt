@@ -1,4 +1,4 @@
--- The fresh state, and the reasons that refuse one (01, "The state and a turn" and reasons 2 to 6; 02, P1 and reason 12, P6 and reason 15).
+-- The fresh state, and the reasons that refuse one (01, "The state and a turn" and reasons 2 to 6; 02, P1 and reason 12, P6 and reason 15, P7 and kind 4).
 use mathlib.Core.Bool.{Bool, true, _&&_, _||_}
 use mathlib.Core.List.{List, [], _∷_, _++_}
 use Prim.Native.Nat.{ℕ, _-_}
@@ -9,7 +9,7 @@ use Rattle.bitset.specs.Table.{table}
 use Rattle.bitset.specs.Tasks.{isCount}
 use Rattle.parents.specs.Parents.{checkOf}
 use Rattle.lines.specs.declared.Task.{Task}
-use Rattle.lines.specs.Setters.{zeroTask, withLine, withStart, withWork, withLeft}
+use Rattle.lines.specs.Setters.{zeroTask, withLine, withStart, withWork, withLeft, withOwn}
 use Rattle.machine.specs.declared.State.{State}
 use Rattle.machine.specs.declared.Setup.{Setup}
 use Rattle.machine.specs.declared.Fresh.{Fresh}
@@ -27,9 +27,16 @@ abbrev pub inputsOf : Setup → List ℕ → List ℕ → List ℕ → Inputs
 inputsOf setup parents starts works =
     record { kind = setup .kind; n = setup .n; modulus = setup .modulus; parents = parents; starts = starts; works = works }
 
--- "0 symmetric, 1 fetch-and-increment, 2 ring, 3 tree"
+-- "0 symmetric, 1 fetch-and-increment, 2 ring, 3 tree". 02, P7: "2 now admits kind 4, and shapes keep 0 to 3", whose limit is their own (`isShape`).
+abbrev pub lastKind : ℕ
+lastKind = 4
+
 abbrev pub isKind : ℕ → Bool
-isKind kind = leb kind 3
+isKind kind = leb kind lastKind
+
+-- the kinds whose tasks share arrivals and a sense. 02, P7: "Kind 4 has kind 1's .. shared sense".
+abbrev pub hasSense : ℕ → Bool
+hasSense kind = eqb kind 1 || eqb kind 4
 
 -- "R is 3 to 255; for other kinds R is 0."
 abbrev pub modulusOk : ℕ → ℕ → Bool
@@ -96,17 +103,25 @@ abbrev pub workOf : List ℕ → ℕ → ℕ
 workOf works q = getD works q 1
 
 -- "Each task has a line and a count, fresh 11 and 0"; "fields not named above start at 0". With a start and a work length, all of whose moves
--- are left:
-abbrev pub taskWith : ℕ → ℕ → Task
-taskWith start work = withLeft (withWork (withStart (withLine zeroTask 11) start) work) work
+-- are left, and an own sense:
+abbrev pub taskWith : ℕ → ℕ → ℕ → Task
+taskWith start work own = withOwn (withLeft (withWork (withStart (withLine zeroTask 11) start) work) work) own
+
+-- 02, P7: "the task's sense, fresh 1", for kind 4; 0 for another kind, which doesn't use it
+abbrev pub freshOwn : ℕ → ℕ
+freshOwn kind = pick (eqb kind 4) 1 0
 
 -- the task q
 abbrev pub freshTask : Inputs → ℕ → Task
-freshTask i q = taskWith (startOf (i .starts) q) (workOf (i .works) q)
+freshTask i q = taskWith (startOf (i .starts) q) (workOf (i .works) q) (freshOwn (i .kind))
 
--- "Sense (fresh 1)" for kind 1, and 0 for another kind, which doesn't use it
+-- "Sense (fresh 1)" for kind 1; 02, P7: and for kind 4, "fresh 1"; 0 for another kind, which doesn't use it
 abbrev pub freshSense : ℕ → ℕ
-freshSense kind = pick (eqb kind 1) 1 0
+freshSense kind = pick (hasSense kind) 1 0
+
+-- 02, P7: "arrivals start at N and fall" for kind 4; they start at 0 for kind 1, and another kind doesn't use them
+abbrev pub freshArrivals : ℕ → ℕ → ℕ
+freshArrivals kind n = pick (eqb kind 4) n 0
 
 -- n of 64 tasks, the task q as f gives it; the tasks from n on are all zero
 abbrev pub freshTasks : ℕ → (ℕ → Task) → List Task
@@ -123,7 +138,7 @@ freshState i =
       kind = i .kind;
       n = i .n;
       modulus = i .modulus;
-      arrivals = 0;
+      arrivals = freshArrivals (i .kind) (i .n);
       sense = freshSense (i .kind);
       parents = padded (i .parents);
       moves = replicate 64 0;

@@ -19,14 +19,14 @@ use Rattle.parents.specs.ParentsLaws.{accepted, entries-below, check-alike}
 use Rattle.lines.specs.declared.Task.{Task}
 use Rattle.lines.specs.Setters.{zeroTask}
 use Rattle.machine.specs.Setters.{movesAt, waitsAt}
-use Rattle.machine.specs.Fresh.{Inputs, isKind, modulusOk, parentsReason, allBelow, startsReason, isWork, allWork, worksReason, firstReason, tablesReason, freshReason, startOf, workOf, freshTask, freshTasks, padded, freshState, freshOf}
+use Rattle.machine.specs.Fresh.{Inputs, lastKind, isKind, hasSense, modulusOk, parentsReason, allBelow, startsReason, isWork, allWork, worksReason, firstReason, tablesReason, freshReason, startOf, workOf, freshTask, freshTasks, padded, freshState, freshOf}
 use Rattle.machine.specs.Range.{tableOf, fieldOk, listRoom, allZero, parentsOk, taskZero, Valid}
 use Rattle.bitset.specs.ChoiceLaws.{by-test}
 use Rattle.machine.specs.RangeLaws.{TaskRange, Tallies, valid, line-14, used, modulus-3}
 
 -- what an accepted fresh state is made from
 pub record Accepted (i : Inputs) : Type 0 where
-  pub kind : i .kind ≤ 3
+  pub kind : i .kind ≤ lastKind
   pub some : 1 ≤ i .n
   pub few : i .n ≤ 64
   pub modulus : modulusOk (i .kind) (i .modulus) ≡ true
@@ -49,7 +49,7 @@ accepted-inputs i e = go (isKind (i .kind)) (isCount (i .n)) (modulusOk (i .kind
         let n = is-count (i .n) eb in
         let none = no-reason (parentsReason (i .kind) (i .n) (i .parents)) _ e in
         let rest = no-reason (startsReason (i .kind) (i .n) (i .starts)) (worksReason (i .n) (i .works)) (none .1) in
-        record { kind = leb-true (i .kind) 3 ea; some = n .0; few = n .1; modulus = ec; parents = none .0; starts = rest .0; works = rest .1 }
+        record { kind = leb-true (i .kind) lastKind ea; some = n .0; few = n .1; modulus = ec; parents = none .0; starts = rest .0; works = rest .1 }
     go true true false ea eb ec e = absurd (omega arith)
     go true false c ea eb ec e = absurd (omega arith)
     go false b c ea eb ec e = absurd (omega arith)
@@ -57,7 +57,7 @@ accepted-inputs i e = go (isKind (i .kind)) (isCount (i .n)) (modulusOk (i .kind
 pub inputs-accepted : (i : Inputs) → Accepted i → freshReason i ≡ 0
 unfolding freshReason
 inputs-accepted i a =
-    rw (le-leb (i .kind) 3 (a .kind), le-leb 1 (i .n) (a .some), le-leb (i .n) 64 (a .few), a .modulus, a .parents, a .starts) (a .works)
+    rw (le-leb (i .kind) lastKind (a .kind), le-leb 1 (i .n) (a .some), le-leb (i .n) 64 (a .few), a .modulus, a .parents, a .starts) (a .works)
 
 -- ---- an accepted one is in range
 
@@ -88,7 +88,7 @@ field-zero : (u : Bool) (bound : ℕ) → (u ≡ true → 0 < bound) → fieldOk
 field-zero u bound f = by-test (λ b. b ≡ true) u (λ e. lt-ltb 0 bound (f e)) (λ e. refl)
 
 -- a start table that is given and accepted is the symmetric kind's, and its entries are tasks
-starts-given : (kind n x : ℕ) (xs : List ℕ) → startsReason kind n (x ∷ xs) ≡ 0 → (eqb kind 0 ≡ true) × (allBelow n (x ∷ xs) ≡ true)
+pub starts-given : (kind n x : ℕ) (xs : List ℕ) → startsReason kind n (x ∷ xs) ≡ 0 → (eqb kind 0 ≡ true) × (allBelow n (x ∷ xs) ≡ true)
 starts-given kind n x xs e =
     by-test (λ r. r ≡ 0 → (eqb kind 0 ≡ true) × (allBelow n (x ∷ xs) ≡ true)) (eqb kind 0 && eqb (length (x ∷ xs)) n && allBelow n (x ∷ xs))
     (λ ok _.
@@ -136,6 +136,7 @@ fresh-range i q a =
       start = start-ok (i .kind) (i .n) (i .starts) q (a .some) (a .starts);
       left-from = work-at (i .works) q (works-given (i .n) (i .works) (a .works));
       left-to = omega arith;
+      own = by-test (λ b. b ≡ true) (eqb (i .kind) 4) (λ k. rw k) (λ k. rw k);
     }
   where
     tagged : eqb (i .kind) 0 ≡ true → 0 < i .modulus
@@ -198,8 +199,8 @@ fresh-valid i e =
       some = a .some;
       few = a .few;
       modulus = a .modulus;
-      arrivals = field-zero (eqb (i .kind) 1) (i .n + 1) (λ _. omega arith);
-      sense = by-test (λ b. b ≡ true) (eqb (i .kind) 1) (λ k. rw k) (λ k. rw k);
+      arrivals = by-test (λ x. fieldOk (hasSense (i .kind)) (i .n + 1) x ≡ true) (eqb (i .kind) 4) (λ k. used (hasSense (i .kind)) (i .n + 1) (i .n) (rw (k, or-true)) (omega arith)) (λ _. field-zero (hasSense (i .kind)) (i .n + 1) (λ _. omega arith));
+      sense = by-test (λ b. b ≡ true) (hasSense (i .kind)) (λ k. rw k) (λ k. rw k);
       parents = fresh-parents i a;
       tasks = λ q h. subst (TaskRange (freshState i) q) (sym (fresh-at (i .n) q (freshTask i) h)) (fresh-range i q a);
       rest = λ q m l. rw (zero-at (i .n) q (freshTask i) m l);

@@ -3,7 +3,7 @@ use mathlib.Core.Path.{_≡_, refl, sym, _∙_, subst}
 use mathlib.Core.Bool.{Bool, true, _||_, not}
 use mathlib.Core.List.{List}
 use mathlib.Core.Logic.{_≢_}
-use Prim.Native.Nat.{ℕ, _+_, _^_, _≤_, _<_}
+use Prim.Native.Nat.{ℕ, _+_, _-_, _^_, _≤_, _<_}
 use native.Mathlib.Nat.{lt-of-not-le, mod-lt}
 use native.Mathlib.Decide.{ℕ-discrete, decLt}
 use native.Mathlib.Omega.{arith}
@@ -31,17 +31,19 @@ use Rattle.lines.specs.declared.Write.the-variants.{Nothing, Arrivals, Sense, T
 use Rattle.lines.specs.Setters.{withLine, withTag, withOld, withList, withToggle, withFlag}
 use Rattle.machine.specs.Setters.{taskAt, withTask, withTasks, withArrivals, withSense, withMoves, withWaits}
 use Rattle.machine.specs.Tally.{maxTally, tallied}
+use Rattle.machine.specs.Fresh.{hasSense}
 use Rattle.machine.specs.Range.{tableOf, lastLine, fieldOk, listRoom, taskZero, tallyOk, Valid}
-use Rattle.lines.specs.Common.{maxCount, moves, awaits, work, raised, counts, choose, takeOff}
+use Rattle.lines.specs.Common.{maxCount, negated, moves, awaits, work, raised, counts, choose, takeOff}
 use Rattle.lines.specs.Symmetric.{nextTag, symmetricLine}
-use Rattle.lines.specs.Increment.{negated, incrementLine}
+use Rattle.lines.specs.Increment.{incrementLine}
 use Rattle.lines.specs.Ring.{nz, nextTask, ringLine}
 use Rattle.lines.specs.Tree.{treeLine}
+use Rattle.lines.specs.Centralized.{centralizedLine}
 use Rattle.lines.specs.Words.{placeOf}
-use Rattle.lines.specs.LineLaws.{by-kind, by-symmetric, by-increment, by-ring, by-tree, Does, keeps, raises, stays, refused-7, refused-11}
+use Rattle.lines.specs.LineLaws.{by-kind, by-symmetric, by-increment, by-ring, by-tree, by-centralized, Does, keeps, raises, stays, refused-7, refused-11}
 use Rattle.machine.specs.Turn.{sharedOf, effectOf, written, movedTo, applied, turnOf}
 use Rattle.machine.specs.TurnLaws.{effect-does, Makes, turn-makes, turn-applied, written-tallies, moved-n, put-same, put-other}
-use Rattle.machine.specs.RangeLaws.{TaskRange, Tallies, InRange, range, valid, present, line-14, used, modulus-3}
+use Rattle.machine.specs.RangeLaws.{TaskRange, Tallies, InRange, range, valid, present, line-14, used, below, modulus-3}
 
 -- ---- storing keeps the range
 
@@ -74,8 +76,8 @@ keep-task s p t r h tr =
 -- what a line may write besides its own task
 abbrev WriteOk : State → Write → Type 0
 WriteOk s Nothing = Unit {0}
-WriteOk s (Arrivals x) = fieldOk (eqb (s .kind) 1) (s .n + 1) x ≡ true
-WriteOk s (Sense x) = fieldOk (eqb (s .kind) 1) 2 x ≡ true
+WriteOk s (Arrivals x) = fieldOk (hasSense (s .kind)) (s .n + 1) x ≡ true
+WriteOk s (Sense x) = fieldOk (hasSense (s .kind)) 2 x ≡ true
 WriteOk s (Toggle q x) = (q < s .n) × (fieldOk (eqb (s .kind) 2) 2 x ≡ true)
 WriteOk s (Flag q x) = (q < s .n) × (fieldOk (eqb (s .kind) 3) 2 x ≡ true)
 
@@ -214,26 +216,57 @@ module _ (s : State) (p : ℕ) (r : InRange s) (h : p < s .n) where
           let o = tr in
           (search arith, tt)
 
+  -- the lines of the kinds that share arrivals and a sense
+  module _ (l16 : lastLine (s .kind) ≡ 16) (shares : hasSense (s .kind) ≡ true) where
+    good-arrives : (last : Bool) (x : ℕ) → x ≤ s .n → GoodEffect s p (counts (taskAt s p) (moves (withLine (raised (taskAt s p)) (pick last 14 16)) (Arrivals x)))
+    good-arrives last x few =
+        good-counts (moves (withLine (raised (taskAt s p)) (pick last 14 16)) (Arrivals x))
+        (λ low. (
+          by-test (λ l. TaskRange s p (withLine (raised (taskAt s p)) l)) last (λ _. up low 14 (omega arith) (omega (arith, l16))) (λ _. up low 16 (omega arith) (omega (arith, l16))),
+          used (hasSense (s .kind)) (s .n + 1) x shares (omega arith),
+        ))
+      where
+        up : taskAt s p .count < maxCount → (l : ℕ) → 11 ≤ l → l ≤ lastLine (s .kind) → TaskRange s p (withLine (raised (taskAt s p)) l)
+        up low l a b = let o = tr in search arith
+
+    good-resets : (x : ℕ) → x ≤ s .n → GoodEffect s p (moves (withLine (taskAt s p) 15) (Arrivals x))
+    good-resets x few = (to-line 15 (omega arith) (omega (arith, l16)), used (hasSense (s .kind)) (s .n + 1) x shares (omega arith))
+
+    good-turns : (x : ℕ) → x < 2 → GoodEffect s p (moves (withLine (taskAt s p) 11) (Sense x))
+    good-turns x bit = (to-line 11 (omega arith) (omega (arith, l16)), used (hasSense (s .kind)) 2 x shares bit)
+
+    good-leaves : (b : Bool) → GoodEffect s p (awaits b (taskAt s p) (moves (withLine (taskAt s p) 11) Nothing))
+    good-leaves b = good-awaits b (moves (withLine (taskAt s p) 11) Nothing) (to-line 11 (omega arith) (omega (arith, l16)), tt)
+
+  negated-bit : (b : ℕ) → negated b < 2
+  negated-bit b = by-test (λ x. x < 2) (eqb b 0) (λ _. omega arith) (λ _. omega arith)
+
   good-increment : s .kind ≡ 1 → GoodEffect s p (incrementLine (taskAt s p .line) (s .n) (s .arrivals) (s .sense) (taskAt s p))
   good-increment k =
       by-increment (GoodEffect s p) (taskAt s p .line) (taskAt s p) (λ _. tt) (λ _. good-work) (s .n) (s .arrivals) (s .sense)
-      (λ _. let a = used (eqb (s .kind) 1) 2 (negated (s .sense)) (rw k) aimed in let o = tr in let l = l16 in (search arith, tt))
-      (λ _. by-test (GoodEffect s p) (leb (s .n) (s .arrivals)) (λ _. tt) (λ few. good-counts (moves (withLine (raised (taskAt s p)) (pick (eqb (s .arrivals + 1) (s .n)) 14 16)) (Arrivals (s .arrivals + 1))) (λ low. (line-13 low, used (eqb (s .kind) 1) (s .n + 1) (s .arrivals + 1) (rw k) (omega (arith, leb-false (s .n) (s .arrivals) few))))))
-      (λ _. (to-line 15 (omega arith) (omega (arith, l16)), used (eqb (s .kind) 1) (s .n + 1) 0 (rw k) (omega arith)))
-      (λ _. (to-line 11 (omega arith) (omega (arith, l16)), tr .aim))
-      (λ _. good-awaits (eqb (s .sense) (taskAt s p .aim)) (moves (withLine (taskAt s p) 11) Nothing) (to-line 11 (omega arith) (omega (arith, l16)), tt))
+      (λ _. let a = used (eqb (s .kind) 1) 2 (negated (s .sense)) (rw k) (negated-bit (s .sense)) in let o = tr in let l = l16 in (search arith, tt))
+      (λ _. by-test (GoodEffect s p) (leb (s .n) (s .arrivals)) (λ _. tt)
+      (λ few. good-arrives l16 (rw k) (eqb (s .arrivals + 1) (s .n)) (s .arrivals + 1) (omega (arith, leb-false (s .n) (s .arrivals) few))))
+      (λ _. good-resets l16 (rw k) 0 (omega arith))
+      (λ _. good-turns l16 (rw k) (taskAt s p .aim) (below (eqb (s .kind) 1) 2 (taskAt s p .aim) (rw k) (tr .aim)))
+      (λ _. good-leaves l16 (rw k) (eqb (s .sense) (taskAt s p .aim)))
     where
       l16 : lastLine (s .kind) ≡ 16
       l16 = rw k
 
-      aimed : negated (s .sense) < 2
-      aimed = by-test (λ x. x < 2) (eqb (s .sense) 0) (λ _. omega arith) (λ _. omega arith)
-
-      line-13 : taskAt s p .count < maxCount → TaskRange s p (withLine (raised (taskAt s p)) (pick (eqb (s .arrivals + 1) (s .n)) 14 16))
-      line-13 low = by-test (λ l. TaskRange s p (withLine (raised (taskAt s p)) l)) (eqb (s .arrivals + 1) (s .n)) (λ _. up 14 (omega arith) (omega (arith, l16))) (λ _. up 16 (omega arith) (omega (arith, l16)))
-        where
-          up : (l : ℕ) → 11 ≤ l → l ≤ lastLine (s .kind) → TaskRange s p (withLine (raised (taskAt s p)) l)
-          up l a b = let o = tr in search arith
+  good-centralized : s .kind ≡ 4 → GoodEffect s p (centralizedLine (taskAt s p .line) (s .n) (s .arrivals) (s .sense) (taskAt s p))
+  good-centralized k =
+      by-centralized (GoodEffect s p) (taskAt s p .line) (taskAt s p) (λ _. tt) (λ _. good-work) (s .n) (s .arrivals) (s .sense)
+      (λ _. let a = used (eqb (s .kind) 4) 2 (negated (taskAt s p .own)) (rw k) (negated-bit (taskAt s p .own)) in let o = tr in let l = l16 in (search arith, tt))
+      (λ _. by-test (GoodEffect s p) (eqb (s .arrivals) 0) (λ _. tt)
+      (λ _. good-arrives l16 (rw k) (eqb (s .arrivals) 1) (s .arrivals - 1)
+      (omega (arith, below (hasSense (s .kind)) (s .n + 1) (s .arrivals) (rw k) (r .arrivals)))))
+      (λ _. good-resets l16 (rw k) (s .n) (omega arith))
+      (λ _. good-turns l16 (rw k) (taskAt s p .own) (below (eqb (s .kind) 4) 2 (taskAt s p .own) (rw k) (tr .own)))
+      (λ _. good-leaves l16 (rw k) (eqb (s .sense) (taskAt s p .own)))
+    where
+      l16 : lastLine (s .kind) ≡ 16
+      l16 = rw k
 
   good-ring : s .kind ≡ 2 → GoodEffect s p (ringLine (taskAt s p .line) (s .n) p (taskAt s p))
   good-ring k =
@@ -284,7 +317,7 @@ module _ (s : State) (p : ℕ) (r : InRange s) (h : p < s .n) where
   unfolding effectOf
   good-effect =
       by-kind (GoodEffect s p) (sharedOf s) (tableOf s) p (taskAt s p) (taskAt s (taskAt s p .looked))
-      (λ k. good-symmetric k _) good-increment good-ring (λ k. good-tree k _) tt
+      (λ k. good-symmetric k _) good-increment good-ring (λ k. good-tree k _) good-centralized tt
 
 -- ---- the law
 

@@ -17,6 +17,13 @@ pub least-attained : (s : State) → 0 < s .n → (q : ℕ) × (q < s .n) × (le
 unfolding least
 least-attained s h = let a = lowest-attained (countOf s) (s .n - 1) in (a .0, omega (arith, a .1), a .2)
 
+-- it is told by N and the counts
+pub least-same : (s s′ : State) → s .n ≡ s′ .n → 0 < s′ .n → ((q : ℕ) → q < s′ .n → taskAt s q .count ≡ taskAt s′ q .count) → least s ≡ least s′
+least-same s s′ e h same =
+    let a = least-attained s (omega arith) in
+    let b = least-attained s′ h in
+    omega (arith, a .1, a .2, same (a .0) (omega (arith, a .1)), least-le s′ (a .0) (omega (arith, a .1)), b .1, b .2, same (b .0) (b .1), least-le s (b .0) (omega (arith, b .1)))
+
 -- it is the lowest of the counts
 pub least-is : (s : State) → least s ≡ leastUpTo s (s .n - 1)
 unfolding least

@@ -14,15 +14,15 @@ use Rattle.lines.specs.Common.{maxCount}
 use Rattle.machine.specs.declared.State.{State}
 use Rattle.machine.specs.Setters.{taskAt, movesAt, waitsAt}
 use Rattle.machine.specs.Tally.{maxTally}
-use Rattle.machine.specs.Fresh.{isKind, modulusOk, allBelow}
+use Rattle.machine.specs.Fresh.{isKind, hasSense, modulusOk, allBelow}
 
 -- "A table of N bytes gives each task's parent": the first N entries
 abbrev pub tableOf : State → List ℕ
 tableOf s = take (s .n) (s .parents)
 
--- "Lines: from 11 to 14 for kind 0, 16 for kind 1, 15 for kind 2, 18 for kind 3." Another kind has none.
+-- "Lines: from 11 to 14 for kind 0, 16 for kind 1, 15 for kind 2, 18 for kind 3." 02, P7: "Kind 4 has kind 1's lines". Another kind has none.
 abbrev pub lastLine : ℕ → ℕ
-lastLine kind = pick (eqb kind 0) 14 (pick (eqb kind 1) 16 (pick (eqb kind 2) 15 (pick (eqb kind 3) 18 0)))
+lastLine kind = pick (eqb kind 0) 14 (pick (eqb kind 1) 16 (pick (eqb kind 2) 15 (pick (eqb kind 3) 18 (pick (eqb kind 4) 16 0))))
 
 -- a field that the kind uses is below its bound; "every field the kind doesn't use .. is 0"
 abbrev pub fieldOk : Bool → ℕ → ℕ → Bool
@@ -33,7 +33,8 @@ abbrev pub listRoom : State → ℕ → ℕ
 listRoom s q = pick (eqb (s .kind) 0) (allOf (s .n)) (pick (eqb (s .kind) 3) (childrenOf (tableOf s) q) 0)
 
 -- "Tag and old below R. Looked-at below N. .. aim, toggle and flag 0 or 1." 02, P1: "a start is below N, and 0 for other kinds." 02, P6: "the moves
--- left .. lie between 1 and the length", whatever the line; so the length is 1 or more, and as a byte at most 255. The task t at q:
+-- left .. lie between 1 and the length", whatever the line; so the length is 1 or more, and as a byte at most 255. 02, P7: "A task's own
+-- sense is 0 or 1" for kind 4, which has "no aim". The task t at q:
 unfoldable pub taskOk : State → ℕ → Task → Bool
 taskOk s q t =
     leb 11 (t .line) && leb (t .line) (lastLine (s .kind))
@@ -48,12 +49,13 @@ taskOk s q t =
     && fieldOk (eqb (s .kind) 0) (s .n) (t .start)
     && leb 1 (t .left)
     && leb (t .left) (t .work)
+    && fieldOk (eqb (s .kind) 4) 2 (t .own)
 
 -- "every field of a task from N on, is 0"
 unfoldable pub taskZero : Task → Bool
 taskZero t =
     eqb (t .line) 0 && eqb (t .count) 0 && eqb (t .tag) 0 && eqb (t .old) 0 && eqb (t .list) 0 && eqb (t .looked) 0
-    && eqb (t .aim) 0 && eqb (t .toggle) 0 && eqb (t .flag) 0 && eqb (t .start) 0 && eqb (t .work) 0 && eqb (t .left) 0
+    && eqb (t .aim) 0 && eqb (t .toggle) 0 && eqb (t .flag) 0 && eqb (t .start) 0 && eqb (t .work) 0 && eqb (t .left) 0 && eqb (t .own) 0
 
 -- 02, P3: the tallies are "at most 4,000,000,000 each"; those of a task from N on are 0. A tally of task q:
 abbrev pub tallyOk : ℕ → ℕ → ℕ → Bool
@@ -87,12 +89,12 @@ parentsOk s =
 abbrev pub tallies64 : State → Bool
 tallies64 s = eqb (length (s .moves)) 64 && eqb (length (s .waits)) 64
 
--- "Kind and N as above. .. Arrivals 0 to N. Sense .. 0 or 1."
+-- "Kind and N as above. .. Arrivals 0 to N. Sense .. 0 or 1." 02, P7: of kind 4 too "Arrivals range from 0 to N."
 unfoldable pub stateOk : State → Bool
 stateOk s =
     isKind (s .kind) && isCount (s .n) && modulusOk (s .kind) (s .modulus)
-    && fieldOk (eqb (s .kind) 1) (s .n + 1) (s .arrivals)
-    && fieldOk (eqb (s .kind) 1) 2 (s .sense)
+    && fieldOk (hasSense (s .kind)) (s .n + 1) (s .arrivals)
+    && fieldOk (hasSense (s .kind)) 2 (s .sense)
     && parentsOk s
     && tasksOk s 64
     && tallies64 s

@@ -17,7 +17,7 @@ use Rattle.machine.specs.declared.State.{State}
 use Rattle.lines.specs.Setters.{zeroTask}
 use Rattle.lines.specs.Common.{maxCount}
 use Rattle.machine.specs.Setters.{taskAt, movesAt, waitsAt}
-use Rattle.machine.specs.Fresh.{modulusOk}
+use Rattle.machine.specs.Fresh.{lastKind, hasSense, modulusOk}
 use Rattle.bitset.specs.ChoiceLaws.{by-test}
 use Rattle.machine.specs.Range.{lastLine, fieldOk, listRoom, taskOk, taskZero, tallyOk, placeOk, eachOk, tasksOk, parentsOk, stateOk, checkState, Valid}
 
@@ -38,6 +38,7 @@ pub record TaskRange (s : State) (q : ℕ) (t : Task) : Type 0 where
   pub start : fieldOk (eqb (s .kind) 0) (s .n) (t .start) ≡ true
   pub left-from : 1 ≤ t .left
   pub left-to : t .left ≤ t .work
+  pub own : fieldOk (eqb (s .kind) 4) 2 (t .own) ≡ true
 
 -- what is tested of the tallies: each is at most its limit, and 0 from N on
 pub record Tallies (n : ℕ) (tallies : List ℕ) : Type 0 where
@@ -46,12 +47,12 @@ pub record Tallies (n : ℕ) (tallies : List ℕ) : Type 0 where
 
 -- what stateOk tests
 pub record InRange (s : State) : Type 0 where
-  pub kind : s .kind ≤ 3
+  pub kind : s .kind ≤ lastKind
   pub some : 1 ≤ s .n
   pub few : s .n ≤ 64
   pub modulus : modulusOk (s .kind) (s .modulus) ≡ true
-  pub arrivals : fieldOk (eqb (s .kind) 1) (s .n + 1) (s .arrivals) ≡ true
-  pub sense : fieldOk (eqb (s .kind) 1) 2 (s .sense) ≡ true
+  pub arrivals : fieldOk (hasSense (s .kind)) (s .n + 1) (s .arrivals) ≡ true
+  pub sense : fieldOk (hasSense (s .kind)) 2 (s .sense) ≡ true
   pub parents : parentsOk s ≡ true
   pub tasks : (q : ℕ) → q < s .n → TaskRange s q (taskAt s q)
   pub rest : (q : ℕ) → s .n ≤ q → q < 64 → taskZero (taskAt s q) ≡ true
@@ -61,7 +62,8 @@ pub record InRange (s : State) : Type 0 where
 task-range : (s : State) (q : ℕ) (t : Task) → taskOk s q t ≡ true → TaskRange s q t
 unfolding taskOk
 task-range s q t e =
-    let e12 = and-eq-true-iff _ _ .0 e in
+    let e13 = and-eq-true-iff _ _ .0 e in
+    let e12 = and-eq-true-iff _ _ .0 (e13 .0) in
     let e11 = and-eq-true-iff _ _ .0 (e12 .0) in
     let e10 = and-eq-true-iff _ _ .0 (e11 .0) in
     let e9 = and-eq-true-iff _ _ .0 (e10 .0) in
@@ -87,6 +89,7 @@ task-range s q t e =
       start = e10 .1;
       left-from = leb-true 1 (t .left) (e11 .1);
       left-to = leb-true (t .left) (t .work) (e12 .1);
+      own = e13 .1;
     }
 
 range-task : (s : State) (q : ℕ) (t : Task) → TaskRange s q t → taskOk s q t ≡ true
@@ -106,6 +109,7 @@ range-task s q t r =
       r .start,
       le-leb 1 (t .left) (r .left-from),
       le-leb (t .left) (t .work) (r .left-to),
+      r .own,
     )
 
 tasks-at : (s : State) (m q : ℕ) → tasksOk s m ≡ true → q < m → eachOk s q ≡ true
@@ -150,7 +154,7 @@ range s e = go (stateOk s) refl e
         let at : (q : ℕ) → q < 64 → (placeOk s q (taskAt s q) ≡ true) × (tallyOk (s .n) q (movesAt s q) ≡ true) × (tallyOk (s .n) q (waitsAt s q) ≡ true)
         = λ q h. each-parts s q (tasks-at s 64 q (e6 .1) h) in
         record {
-          kind = leb-true (s .kind) 3 (e1 .0);
+          kind = leb-true (s .kind) lastKind (e1 .0);
           some = n .0;
           few = n .1;
           modulus = e2 .1;
@@ -167,7 +171,7 @@ pub valid : (s : State) → InRange s → Valid s
 unfolding checkState stateOk
 valid s r =
     rw (
-      le-leb (s .kind) 3 (r .kind),
+      le-leb (s .kind) lastKind (r .kind),
       le-leb 1 (s .n) (r .some),
       le-leb (s .n) 64 (r .few),
       r .modulus,
@@ -196,13 +200,14 @@ pub present : (s : State) (q : ℕ) → 11 ≤ taskAt s q .line → q < length (
 present s q h = lt-of-not-le (λ l. absurd (omega (arith, ap (λ (t : Task). t .line) (List·getD-eq-default (s .tasks) zeroTask {n = q} l))))
 
 -- every barrier has the lines 11 to 14
-pub line-14 : (kind : ℕ) → kind ≤ 3 → 14 ≤ lastLine kind
+pub line-14 : (kind : ℕ) → kind ≤ lastKind → 14 ≤ lastLine kind
 line-14 kind known =
     by-test (λ x. 14 ≤ x) (eqb kind 0) (λ _. omega arith)
     (λ n0. by-test (λ x. 14 ≤ x) (eqb kind 1) (λ _. omega arith)
     (λ n1. by-test (λ x. 14 ≤ x) (eqb kind 2) (λ _. omega arith)
     (λ n2. by-test (λ x. 14 ≤ x) (eqb kind 3) (λ _. omega arith)
-    (λ n3. absurd (omega (arith, eqb-false kind 0 n0, eqb-false kind 1 n1, eqb-false kind 2 n2, eqb-false kind 3 n3))))))
+    (λ n3. by-test (λ x. 14 ≤ x) (eqb kind 4) (λ _. omega arith)
+    (λ n4. absurd (omega (arith, eqb-false kind 0 n0, eqb-false kind 1 n1, eqb-false kind 2 n2, eqb-false kind 3 n3, eqb-false kind 4 n4)))))))
 
 -- and none has a line above 18
 pub line-18 : (kind : ℕ) → lastLine kind ≤ 18
@@ -210,7 +215,8 @@ line-18 kind =
     by-test (λ x. x ≤ 18) (eqb kind 0) (λ _. omega arith)
     (λ _. by-test (λ x. x ≤ 18) (eqb kind 1) (λ _. omega arith)
     (λ _. by-test (λ x. x ≤ 18) (eqb kind 2) (λ _. omega arith)
-    (λ _. by-test (λ x. x ≤ 18) (eqb kind 3) (λ _. omega arith) (λ _. omega arith))))
+    (λ _. by-test (λ x. x ≤ 18) (eqb kind 3) (λ _. omega arith)
+    (λ _. by-test (λ x. x ≤ 18) (eqb kind 4) (λ _. omega arith) (λ _. omega arith)))))
 
 -- a field that the kind uses is in range below its bound, and has it
 pub used : (u : Bool) (bound x : ℕ) → u ≡ true → x < bound → fieldOk u bound x ≡ true

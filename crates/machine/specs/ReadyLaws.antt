@@ -43,9 +43,12 @@ found s (suc k) p = go (wouldMove s p) refl (readyFrom s k (p + 1)) (found s k (
 
 -- ---- of a state in range
 
-pub ready-found : (s : State) → Valid s → Found s (s .n) 0 (readyOf s .ready)
+pub ready-is : (s : State) → Valid s → readyOf s .ready ≡ readyFrom s (s .n) 0
 unfolding readyOf
-ready-found s ok = rw (eq-eqb (checkState s) 0 ok) (found s (s .n) 0)
+ready-is s ok = rw (eq-eqb (checkState s) 0 ok)
+
+pub ready-found : (s : State) → Valid s → Found s (s .n) 0 (readyOf s .ready)
+ready-found s ok = rw (ready-is s ok) (found s (s .n) 0)
 
 module _ (s : State) (ok : Valid s) where
   -- "none if there is no such task", and only then

@@ -24,6 +24,7 @@ use Rattle.lines.specs.Symmetric.{symmetricLine}
 use Rattle.lines.specs.Increment.{incrementLine}
 use Rattle.lines.specs.Ring.{ringLine}
 use Rattle.lines.specs.Tree.{treeLine}
+use Rattle.lines.specs.Centralized.{centralizedLine}
 use Rattle.lines.specs.Rule.{effectFrom}
 use Rattle.lines.specs.Words.{writes, arrivalsAfter, senseAfter, placeOf, taskAfter}
 use Rattle.lines.specs.LineLaws.{Does, keeps, raises, stays, refused-7, refused-11, does, Kept, kept}
@@ -87,6 +88,10 @@ module _ (s : State) (p : ℕ) where
   pub effect-3 : s .kind ≡ 3 → effectOf s p ≡ treeLine (own .line) (tableOf s) p (seen .flag) own
   unfolding effectOf
   effect-3 k = rw k
+
+  pub effect-4 : s .kind ≡ 4 → effectOf s p ≡ centralizedLine (own .line) (s .n) (s .arrivals) (s .sense) own
+  unfolding effectOf
+  effect-4 k = rw k
 
   -- what the line does, whatever the kind
   pub effect-does : Does (sharedOf s) own (effectOf s p)

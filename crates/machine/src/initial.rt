@@ -61,11 +61,25 @@ fn first_reason(a: u8, b: u8) -> u8
     if a == 0 { b } else { a }
 }
 
-// 1 for kind 1, which alone uses it.
+// The shared sense: 1 for the kinds that have one.
 fn fresh_sense(kind: usize) -> u8
     ensures { λ r. ⌜ r ≡ defs.freshSense kind ⌝ }
 {
-    if kind == 1 { 1 } else { 0 }
+    if range::has_sense(kind) { 1 } else { 0 }
+}
+
+// The arrivals: the kind that counts down begins with n.
+fn fresh_arrivals(kind: usize, n: u8) -> u8
+    ensures { λ r. ⌜ r ≡ defs.freshArrivals kind n ⌝ }
+{
+    if kind == 4 { n } else { 0 }
+}
+
+// A task's own sense: 1 for the kind that has one.
+fn fresh_own(kind: usize) -> u8
+    ensures { λ r. ⌜ r ≡ defs.freshOwn kind ⌝ }
+{
+    if kind == 4 { 1 } else { 0 }
 }
 
 // The task whose fields are all 0.
@@ -85,6 +99,7 @@ fn zero_task() -> Task
         looked: 0,
         work: 0,
         left: 0,
+        own: 0,
     }
 }
 
@@ -117,27 +132,28 @@ fn work_of(works: &[u8], q: usize) -> u8
     if q < works.len() { works[q] } else { 1 }
 }
 
-// A fresh task: at line 11, with its start and all moves of its work left, all else 0.
-fn fresh_task(start: u8, work: u8) -> Task
-    ensures { λ r. ⌜ r ≡ defs.taskWith start work ⌝ }
+// A fresh task: at line 11, with its start, all moves of its work left and its own sense, all else 0.
+fn fresh_task(start: u8, work: u8, own: u8) -> Task
+    ensures { λ r. ⌜ r ≡ defs.taskWith start work own ⌝ }
 {
     let mut fresh = zero_task();
     fresh.line = 11;
     fresh.start = start;
     fresh.work = work;
     fresh.left = work;
+    fresh.own = own;
     fresh
 }
 
 // The tasks of a fresh state: n fresh ones, and all zero from n on.
-fn fresh_tasks(n: usize, starts: &[u8], works: &[u8]) -> [Task; 64]
+fn fresh_tasks(n: usize, starts: &[u8], works: &[u8], own: u8) -> [Task; 64]
     requires { ⌜ n ≤ 64 ⌝ }
-    ensures { λ r. ⌜ r ≡ defs.freshTasks n (λ q. defs.taskWith (defs.startOf (now (starts .entry)) q) (defs.workOf (now (works .entry)) q)) ⌝ }
+    ensures { λ r. ⌜ r ≡ defs.freshTasks n (λ q. defs.taskWith (defs.startOf (now (starts .entry)) q) (defs.workOf (now (works .entry)) q) own) ⌝ }
 {
     let mut all = zero_tasks();
     let mut q = 0;
     while q < n {
-        all[q] = fresh_task(start_of(starts, q), work_of(works, q));
+        all[q] = fresh_task(start_of(starts, q), work_of(works, q), own);
         q += 1;
     }
     all
@@ -210,12 +226,13 @@ impl Setup {
             };
         }
         let table = padded(parents);
-        let tasks = fresh_tasks(self.n, starts, works);
+        let tasks = fresh_tasks(self.n, starts, works, fresh_own(self.kind));
+        let n = self.n as u8;
         let state = State {
             kind: self.kind as u8,
-            n: self.n as u8,
+            n,
             modulus: self.modulus as u8,
-            arrivals: 0,
+            arrivals: fresh_arrivals(self.kind, n),
             sense: fresh_sense(self.kind),
             parents: table,
             moves: [0; 64],

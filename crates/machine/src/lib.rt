@@ -1,4 +1,4 @@
-// The step machine of the four barriers: a fresh state, a turn, and who is ready. It gathers what a line reads, stores what it writes, and
+// The step machine of the five barriers: a fresh state, a turn, and who is ready. It gathers what a line reads, stores what it writes, and
 // checks ranges; what a line does is the crate `lines`. What each call answers is defined in specs/, and the modules here follow its files:
 // `initial` (Fresh), `range`, `rounds` (Least), `turn`, `able` (Ready). Every public function is total, and its contract is an equation with its definition.
 mod able;

@@ -9,13 +9,20 @@ ghost use Prim.Native.Nat.{min};
 ghost use lib.Dec.{eqb};
 ghost use Rattle.parents.specs.Parents.{checkNumber};
 ghost use Rattle.machine.specs.Range as defs;
-ghost use Rattle.machine.specs.Fresh.{isKind, modulusOk, allBelow};
+ghost use Rattle.machine.specs.Fresh.{isKind, hasSense, modulusOk, allBelow};
 
 // Whether there is such a kind.
 pub(crate) fn is_kind(kind: usize) -> bool
     ensures { λ r. ⌜ r ≡ isKind kind ⌝ }
 {
-    kind <= 3
+    kind <= 4
+}
+
+// Whether its tasks share arrivals and a sense.
+pub(crate) fn has_sense(kind: usize) -> bool
+    ensures { λ r. ⌜ r ≡ hasSense kind ⌝ }
+{
+    (kind == 1) | (kind == 4)
 }
 
 // Whether the kind takes such a modulus.
@@ -38,7 +45,8 @@ fn last_line(kind: u8) -> u8
         1 => 16,
         2 => 15,
         3 => 18,
-        4..=255 => 0,
+        4 => 16,
+        5..=255 => 0,
     }
 }
 
@@ -72,6 +80,7 @@ fn task_zero(task: Task) -> bool
         & (task.start == 0)
         & (task.work == 0)
         & (task.left == 0)
+        & (task.own == 0)
 }
 
 // Whether a tally of task q is as it must be: at most its limit below n, and 0 from n on.
@@ -146,6 +155,7 @@ impl State {
             & field_ok(kind == 0, n, task.start)
             & (1 <= task.left)
             & (task.left <= task.work)
+            & field_ok(kind == 4, 2, task.own)
     }
 
     // Whether the task at q is as it must be there: in range below N, and all zero from N on.
@@ -194,11 +204,12 @@ impl State {
     {
         let kind = self.kind;
         let n = self.n as usize;
+        let shares = has_sense(kind as usize);
         is_kind(kind as usize)
             & bitset::is_count(n)
             & modulus_ok(kind as usize, self.modulus as usize)
-            & field_ok(kind == 1, n + 1, self.arrivals)
-            & field_ok(kind == 1, 2, self.sense)
+            & field_ok(shares, n + 1, self.arrivals)
+            & field_ok(shares, 2, self.sense)
             & self.parents_ok()
             & self.tasks_ok()
     }

@@ -5,6 +5,7 @@ use lines::Effect;
 use lines::Shared;
 use lines::Task;
 use lines::Write;
+use lines::centralized;
 use lines::increment;
 use lines::ring;
 use lines::symmetric;
@@ -27,7 +28,8 @@ pub(crate) fn effect_of(shared: Shared, table: &[u8], task: usize, own: Task, se
             14..=16 => tree::meet(line, task, seen.flag, own),
             17..=255 => tree::release(line, table, task, own),
         },
-        4..=255 => Effect {
+        4 => centralized::line(line, shared.n, shared.arrivals, shared.sense, own),
+        5..=255 => Effect {
             act: Act::Waits,
             task: own,
             write: Write::Nothing,

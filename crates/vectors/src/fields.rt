@@ -23,13 +23,19 @@ fn show_parents(state: State, out: &mut Output, at: usize) -> usize {
     print::bytes(&parents, out, at)
 }
 
-// All that is kept of a task: these fields, its tallies of moves and of waits, 16 and 17, its work length and the moves left, 18 and 19.
+// A task's fields that came after its tallies: its work length and the moves left, 18 and 19, and its own sense, 20.
+fn show_rest(t: Task, out: &mut Output, at: usize) -> usize {
+    let mut k = print::next(t.work as u64, out, at);
+    k = print::next(t.left as u64, out, k);
+    print::next(t.own as u64, out, k)
+}
+
+// All that is kept of a task: these fields, and between them its tallies of moves and of waits, 16 and 17.
 fn show_kept(t: Task, moves: u32, waits: u32, out: &mut Output, at: usize) -> usize {
     let mut k = show_task(t, out, at);
     k = print::next(moves as u64, out, k);
     k = print::next(waits as u64, out, k);
-    k = print::next(t.work as u64, out, k);
-    print::next(t.left as u64, out, k)
+    show_rest(t, out, k)
 }
 
 fn show_tasks(state: State, out: &mut Output, at: usize) -> usize {
@@ -56,7 +62,7 @@ pub(crate) fn show(state: State, out: &mut Output, at: usize) -> usize {
 // How many tasks have a field of that number; a field of the state itself is at 0.
 fn places(field: u64) -> usize {
     match field {
-        0..=8 | 14..=19 => 64,
+        0..=8 | 14..=20 => 64,
         9..=13 => 1,
         _ => 0,
     }
@@ -93,7 +99,8 @@ fn task_with(mut t: Task, field: u64, value: u64) -> Task {
         8 => t.flag = byte,
         15 => t.start = byte,
         18 => t.work = byte,
-        _ => t.left = byte,
+        19 => t.left = byte,
+        _ => t.own = byte,
     }
     t
 }

@@ -65,7 +65,7 @@ fn any_line(random: &mut Random) -> String {
     let length = random.length(1, 8);
     let mut numbers = vec![random.below(13)];
     for _ in 1..length {
-        let number = if random.once_in(3) { near(random) } else { random.below(5) };
+        let number = if random.once_in(3) { near(random) } else { random.below(6) };
         numbers.push(number.min(1 << 32));
     }
     // A play-back of kind 0 is left to the plays, which know when to give a start table.
@@ -91,8 +91,8 @@ fn any_tables(random: &mut Random) -> String {
     let modulus = random.pick(&[0, 3]);
     let n = random.length(1, 3) as u64;
     let (mut numbers, trace) = match random.below(3) {
-        0 => (vec![11, 1 + random.below(3), n, modulus], 3 * random.below(3)),
-        _ => (vec![10, random.below(4), n, modulus], 0),
+        0 => (vec![11, 1 + random.below(4), n, modulus], 3 * random.below(3)),
+        _ => (vec![10, random.below(5), n, modulus], 0),
     };
     numbers.extend([lengths[0], lengths[1], works]);
     let entries = [lengths[0], lengths[1], works].map(|length| length % 256 % 70);

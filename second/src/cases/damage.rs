@@ -1,12 +1,12 @@
 //! Random damage: fields changed to values in and near their ranges, whole random states in
 //! range, counts that are spread or near their limit, tallies near theirs, and work near its end.
 
-use super::fields::{COUNT, FLAG, LEFT, LINE, MOVES, TOGGLE, WAITS, WORK};
+use super::fields::{ARRIVALS, COUNT, FLAG, LEFT, LINE, MOVES, OWN_SENSE, TOGGLE, WAITS, WORK};
 use super::fresh::accepted_fresh;
 use super::steps::{any_run, turn_of_ready, turn_of_someone};
 use super::values::{TALLIES, TASK_COUNTS};
 use crate::machine::{counting_line, in_range, State, MAX_COUNT, MAX_TALLY};
-use crate::machine::{FETCH_AND_INCREMENT, RING, SYMMETRIC, TREE};
+use crate::machine::{CENTRALIZED, FETCH_AND_INCREMENT, KINDS, RING, SYMMETRIC, TREE};
 use crate::random::Random;
 use crate::recorder::Recorder;
 use crate::requests::{field_value, TASK_FIELDS};
@@ -44,7 +44,7 @@ pub fn damage_for_a_while(recorder: &mut Recorder, random: &mut Random) {
 fn any_change(recorder: &Recorder, random: &mut Random) -> (u64, u64, u64) {
     let state = recorder.state();
     let n = recorder.n().clamp(1, 64);
-    let field = random.below(20);
+    let field = random.below(21);
     let task = match field {
         9..=13 => 0,
         _ if random.once_in(5) => random.length(0, 63),
@@ -68,8 +68,8 @@ fn value_near_range(state: &State, random: &mut Random, field: u64, task: usize)
         2 | 3 => random.pick(&[0, 1, modulus.saturating_sub(1), modulus, modulus + 1]),
         4 => 1 << random.below(n.min(62) + 2),
         5 | 15 => random.pick(&[0, 1, n.saturating_sub(1), n, n + 1]),
-        6..=8 | 13 => random.below(3),
-        9 => random.below(5),
+        6..=8 | 13 | OWN_SENSE => random.below(3),
+        9 => random.below(6),
         10 => random.pick(&[0, 1, n.saturating_sub(1), n, n + 1, 64, 65]),
         11 => random.pick(&[0, 1, 2, 3, 4, 254, 255, 256]),
         12 => random.pick(&[0, 1, n.saturating_sub(1), n, n + 1]),
@@ -85,7 +85,7 @@ fn value_in_range(state: &State, random: &mut Random, field: u64, task: usize) -
     let (kind, n) = (state.kind, u64::from(state.n).max(1));
     match (field, kind) {
         (0, SYMMETRIC) => 11 + random.below(4),
-        (0, FETCH_AND_INCREMENT) => 11 + random.below(6),
+        (0, FETCH_AND_INCREMENT | CENTRALIZED) => 11 + random.below(6),
         (0, RING) => 11 + random.below(5),
         (0, _) => 11 + random.below(8),
         (1, _) => random.pick(&COUNTS).min(MAX_COUNT.into()),
@@ -97,8 +97,8 @@ fn value_in_range(state: &State, random: &mut Random, field: u64, task: usize) -
         (4, TREE) => random.next() & children(state, task),
         (5, SYMMETRIC | TREE) | (15, SYMMETRIC) => random.below(n),
         (6, FETCH_AND_INCREMENT) | (7, RING) | (8, TREE) => random.below(2),
-        (12, FETCH_AND_INCREMENT) => random.below(n + 1),
-        (13, FETCH_AND_INCREMENT) => random.below(2),
+        (12, FETCH_AND_INCREMENT | CENTRALIZED) => random.below(n + 1),
+        (13, FETCH_AND_INCREMENT | CENTRALIZED) | (OWN_SENSE, CENTRALIZED) => random.below(2),
         (14, TREE) if task > 0 && task < n as usize => random.below(task as u64),
         _ => field_value(state, field, task),
     }
@@ -115,7 +115,7 @@ fn children(state: &State, task: usize) -> u64 {
 
 /// A fresh state of any kind, most often of a few tasks. Gives their number.
 fn small_fresh(recorder: &mut Recorder, random: &mut Random) -> usize {
-    let kind = random.below(4) as u8;
+    let kind = random.pick(&KINDS);
     let n = if random.once_in(10) { random.pick(&TASK_COUNTS) } else { random.length(1, 4) };
     accepted_fresh(recorder, random, kind, n);
     n
@@ -180,7 +180,7 @@ pub fn spread_counts(recorder: &mut Recorder, random: &mut Random) {
 
 /// Counts at and just below the limit.
 pub fn near_the_limit(recorder: &mut Recorder, random: &mut Random) {
-    let kind = random.below(4) as u8;
+    let kind = random.pick(&KINDS);
     let n = random.length(1, 4);
     accepted_fresh(recorder, random, kind, n);
     for task in 0..n {
@@ -215,7 +215,7 @@ pub fn near_full_tallies(recorder: &mut Recorder, random: &mut Random) {
 }
 
 /// Fills the task's tallies, or one of them, but for a few turns. Now and then puts the task to
-/// another line, with its count at the limit too.
+/// another line, with its count at the limit and any number of arrivals too.
 fn nearly_full(recorder: &mut Recorder, random: &mut Random, task: usize) {
     for tally in [MOVES, WAITS] {
         if random.once_in(2) {
@@ -224,19 +224,20 @@ fn nearly_full(recorder: &mut Recorder, random: &mut Random, task: usize) {
         }
     }
     if random.once_in(3) {
-        for field in [LINE, TOGGLE, FLAG] {
+        for field in [LINE, TOGGLE, FLAG, OWN_SENSE] {
             any_value(recorder, random, field, task);
         }
     } else if random.once_in(4) {
         let line = counting_line(recorder.state().kind);
         recorder.set(LINE, task, line.into());
         recorder.set(COUNT, task, MAX_COUNT.into());
+        any_value(recorder, random, ARRIVALS, 0);
     }
 }
 
 /// Work of which few moves are left, of tasks at 11 and elsewhere; for a while none, or too many.
 pub fn near_the_end_of_work(recorder: &mut Recorder, random: &mut Random) {
-    let kind = random.below(4) as u8;
+    let kind = random.pick(&KINDS);
     let n = random.length(1, 4);
     let works: Vec<u8> = (0..n).map(|_| random.pick(&[1, 2, 3, 9, 254, 255])).collect();
     recorder.fresh_works(kind, n, &works);

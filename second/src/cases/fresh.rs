@@ -55,7 +55,7 @@ pub fn any_fresh(recorder: &mut Recorder, random: &mut Random) {
 
 /// A setup that may be refused.
 pub fn any_setup(random: &mut Random) -> Setup {
-    let kind = random.below(5);
+    let kind = random.below(6);
     let n = if random.once_in(3) { near(random) } else { random.below(7) };
     let fits = if kind == 0 { 3 } else { 0 };
     let modulus = if random.once_in(3) { near(random) } else { fits };

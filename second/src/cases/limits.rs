@@ -1,18 +1,19 @@
-//! The refusals that a turn meets within a run: arrivals already N at line 13, and the count's
-//! limit at the counting line of each kind.
+//! The refusals that a turn meets within a run: all arrivals at line 13, which is N of them in kind
+//! 1 and none left in kind 4, and the count's limit at the counting line of each kind.
 
 use super::fields::{ARRIVALS, COUNT, FLAG, LINE, TOGGLE};
-use crate::machine::{FETCH_AND_INCREMENT, RING, SYMMETRIC, TREE};
+use crate::machine::{CENTRALIZED, FETCH_AND_INCREMENT, KINDS, TREE};
 use crate::recorder::Recorder;
 
 pub fn cases(recorder: &mut Recorder) {
-    for arrivals in 0..=4 {
-        full_arrivals(recorder, arrivals);
+    for (kind, full, others) in [(FETCH_AND_INCREMENT, 3, [2, 3, 4]), (CENTRALIZED, 0, [1, 0, 4])] {
+        for arrivals in 0..=4 {
+            arrivals_at_13(recorder, kind, arrivals);
+        }
+        full_arrivals_at_each_line(recorder, kind, full);
+        full_arrivals_and_full_count(recorder, kind, others);
     }
-    full_arrivals_at_each_line(recorder);
-    full_arrivals_and_full_count(recorder);
-    let kinds = [(SYMMETRIC, 12), (FETCH_AND_INCREMENT, 13), (RING, 13), (TREE, 15)];
-    for (kind, line) in kinds {
+    for (kind, line) in KINDS.into_iter().zip([12, 13, 13, 15, 13]) {
         for count in [999_998, 999_999, 1_000_000, 1_000_001] {
             count_at_the_limit(recorder, kind, line, count);
         }
@@ -21,9 +22,9 @@ pub fn cases(recorder: &mut Recorder) {
     }
 }
 
-/// A task at line 13 of kind 1 with each number of arrivals.
-fn full_arrivals(recorder: &mut Recorder, arrivals: u64) {
-    recorder.fresh_kind(FETCH_AND_INCREMENT, 3);
+/// A task at line 13 of kind 1 or 4 with each number of arrivals.
+fn arrivals_at_13(recorder: &mut Recorder, kind: u8, arrivals: u64) {
+    recorder.fresh_kind(kind, 3);
     recorder.run_all(&[1, 1, 2]);
     recorder.change(ARRIVALS, 0, arrivals);
     recorder.ready();
@@ -36,11 +37,11 @@ fn full_arrivals(recorder: &mut Recorder, arrivals: u64) {
     recorder.show();
 }
 
-/// Arrivals N: only line 13 is refused.
-fn full_arrivals_at_each_line(recorder: &mut Recorder) {
+/// All have arrived: only line 13 is refused.
+fn full_arrivals_at_each_line(recorder: &mut Recorder, kind: u8, full: u64) {
     for line in 11..=16 {
-        recorder.fresh_kind(FETCH_AND_INCREMENT, 3);
-        recorder.change(ARRIVALS, 0, 3);
+        recorder.fresh_kind(kind, 3);
+        recorder.change(ARRIVALS, 0, full);
         for task in 0..3 {
             recorder.change(LINE, task, line);
         }
@@ -51,12 +52,12 @@ fn full_arrivals_at_each_line(recorder: &mut Recorder) {
     }
 }
 
-/// Both refusals apply at line 13: 7 is given.
-fn full_arrivals_and_full_count(recorder: &mut Recorder) {
-    recorder.fresh_kind(FETCH_AND_INCREMENT, 3);
+/// Both refusals apply at line 13: 7 is given. So it is where the arrivals are out of range.
+fn full_arrivals_and_full_count(recorder: &mut Recorder, kind: u8, others: [u64; 3]) {
+    recorder.fresh_kind(kind, 3);
     recorder.run_all(&[1, 1]);
     recorder.change(COUNT, 1, 1_000_000);
-    for arrivals in [2, 3, 4] {
+    for arrivals in others {
         recorder.change(ARRIVALS, 0, arrivals);
         recorder.turn(1);
         recorder.ready();

@@ -1,6 +1,6 @@
 //! Long schedules: 65,536 turns are taken and 65,537 refused, by a run and by passes.
 
-use crate::machine::{FETCH_AND_INCREMENT, RING, SYMMETRIC, TREE};
+use crate::machine::{CENTRALIZED, FETCH_AND_INCREMENT, RING, SYMMETRIC, TREE};
 use crate::parents;
 use crate::random::Random;
 use crate::recorder::Recorder;
@@ -21,8 +21,10 @@ fn long_runs(recorder: &mut Recorder, random: &mut Random) {
     run_fresh(recorder, SYMMETRIC, 64, 0, &cycle(64, MOST));
     run_fresh(recorder, SYMMETRIC, 12, 0, &uniform(random, 12, 4_096));
     run_with_starts(recorder, &uniform(random, 64, 64), &shuffles(random, 64, 8_960));
-    run_fresh(recorder, FETCH_AND_INCREMENT, 64, 0, &uniform(random, 64, 8_192));
-    run_fresh(recorder, FETCH_AND_INCREMENT, 5, 0, &bursts(random, 5, 4_096));
+    for (n, schedule) in [(64, uniform(random, 64, 8_192)), (5, bursts(random, 5, 4_096))] {
+        run_fresh(recorder, FETCH_AND_INCREMENT, n, 0, &schedule);
+        run_fresh(recorder, CENTRALIZED, n, 0, &schedule);
+    }
     run_fresh(recorder, RING, 31, 0, &shuffles(random, 31, 8_192));
     run_fresh(recorder, RING, 64, 0, &cycle(64, 4_096));
     run_fresh(recorder, TREE, 12, 0, &uniform(random, 12, 4_096));

@@ -170,8 +170,8 @@ fn entries(recorder: &mut Recorder) {
         recorder.ask(line(&[10, 0, 2, 3, 0, 2, 0, entry, 1], &[]));
         recorder.ask(line(&[10, 2, 2, 0, 0, 0, 2, 1, entry], &[]));
         recorder.ask(line(&[10, 2, 2, 0, 0, 0, 2, entry, 1], &[]));
-        recorder.ask(line(&[10, 4, 0, 0, 1, 1, 0, 0, entry], &[]));
-        recorder.ask(line(&[10, 4, 0, 0, 1, 1, 1, 0, 0, entry], &[]));
+        recorder.ask(line(&[10, 5, 0, 0, 1, 1, 0, 0, entry], &[]));
+        recorder.ask(line(&[10, 5, 0, 0, 1, 1, 1, 0, 0, entry], &[]));
         recorder.ask(line(&[11, 3, 2, 0, 2, 0, 0, 0, entry, 0, 11, 1], &[]));
         recorder.ask(line(&[11, 0, 2, 3, 0, 2, 0, entry, 1, 0, 11, 1], &[]));
         recorder.ask(line(&[11, 2, 2, 0, 0, 0, 2, entry, 1, 0, 11, 1], &[]));
@@ -181,7 +181,7 @@ fn entries(recorder: &mut Recorder) {
             numbers[place] = entry;
             recorder.ask(line(&numbers, &[]));
         }
-        recorder.ask(line(&[11, 4, 0, 0, 0, 0, 0, entry], &[]));
+        recorder.ask(line(&[11, 5, 0, 0, 0, 0, 0, entry], &[]));
         recorder.ready();
     }
     recorder.show();
@@ -375,7 +375,7 @@ fn work_tables(recorder: &mut Recorder) {
 /// Fields and tasks of request 6 that aren't there.
 fn missing_fields(recorder: &mut Recorder) {
     recorder.fresh(RING.into(), 3, 0, &[]);
-    for field in (0..=20).chain([255, 256, 1 << 32, u64::MAX]) {
+    for field in (0..=21).chain([255, 256, 1 << 32, u64::MAX]) {
         for task in [0, 1, 63, 64, 255, 256, 1 << 32, u64::MAX] {
             recorder.change(field, task, 1);
         }
@@ -386,7 +386,7 @@ fn missing_fields(recorder: &mut Recorder) {
 
 /// Values that a field's type just holds, and one more.
 fn field_types(recorder: &mut Recorder) {
-    for field in 0..=19 {
+    for field in 0..=20 {
         for value in [255, 256, 511, (1 << 32) - 1, 1 << 32, (1 << 32) + 1, u64::MAX] {
             recorder.change(field, 0, value);
         }

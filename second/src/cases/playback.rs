@@ -1,10 +1,10 @@
 //! Play-backs: the named traces whole, changed and cut, traces with work tables, traces that are
-//! almost right, the refusals and their order, and the longest traces. Of kind 0 without a start table there are the named
-//! traces alone, whole, cut, or with one byte changed.
+//! almost right, the refusals and their order, and the longest traces. Of kind 0 without a start
+//! table there are the named traces alone, whole, cut, or with one byte changed.
 
 use super::fields::{COUNT, LINE, WAITS};
 use super::values::TASK_COUNTS;
-use crate::machine::{MAX_COUNT, RING, SYMMETRIC, TREE};
+use crate::machine::{CENTRALIZED, KINDS, MAX_COUNT, RING, SYMMETRIC, TREE};
 use crate::playback::MAX_TRACE;
 use crate::recorder::Recorder;
 use crate::schedules::{cycle, each, repeat};
@@ -158,10 +158,16 @@ fn other_works(recorder: &mut Recorder, worked: &Named) {
 
 // ---- other traces ----
 
-/// A short trace with a wait, cut after every byte.
+/// Short traces with a wait, cut after every byte.
 fn every_cut(recorder: &mut Recorder) {
-    let setup = setup(RING, 2);
-    let trace = setup.trace(&[1, 1, 0, 0, 0, 1, 1, 1, 0, 0, 1, 1]);
+    cuts(recorder, RING, &[1, 1, 0, 0, 0, 1, 1, 1, 0, 0, 1, 1]);
+    cuts(recorder, CENTRALIZED, &traces::overtaking());
+}
+
+/// The trace of two tasks and a schedule, cut after every byte.
+fn cuts(recorder: &mut Recorder, kind: u8, schedule: &[u8]) {
+    let setup = setup(kind, 2);
+    let trace = setup.trace(schedule);
     for length in 0..=trace.len() {
         recorder.play(&setup, &trace[..length]);
         if length % 3 == 0 {
@@ -175,7 +181,7 @@ fn every_cut(recorder: &mut Recorder) {
 /// The line after the turn stands in place of the one before: at one turn, then at another, then at
 /// all. Where the task waits or stays at 18 the two are the same.
 fn lines_after(recorder: &mut Recorder) {
-    for kind in 0..=3 {
+    for kind in KINDS {
         let setup = setup(kind, 2);
         let trace = setup.trace(&each([1, 0].into_iter(), 5).repeat(3));
         let mut all = trace.clone();
@@ -196,7 +202,7 @@ fn lines_after(recorder: &mut Recorder) {
 
 /// The first of two triples that differ counts, and what stands after it isn't looked at.
 fn several_differences(recorder: &mut Recorder) {
-    for kind in 0..=3 {
+    for kind in KINDS {
         let setup = setup(kind, 3);
         let trace = setup.trace(&cycle(3, 30));
         for [first, second] in [[4, 5], [4, 20], [0, 29], [28, 29], [3, 4]] {
@@ -219,7 +225,7 @@ fn several_differences(recorder: &mut Recorder) {
 
 /// A kept state out of range, or one at its limits, says nothing about a play-back.
 fn damaged_before(recorder: &mut Recorder) {
-    for kind in 0..=3 {
+    for kind in KINDS {
         let setup = setup(kind, 3);
         let mut trace = setup.trace(&cycle(3, 12));
         for _ in 0..2 {
@@ -244,7 +250,7 @@ fn damaged_before(recorder: &mut Recorder) {
 
 /// Every task has two turns, the last one first; then the last triple names a task from N on.
 fn every_task_count(recorder: &mut Recorder) {
-    for kind in 0..=3 {
+    for kind in KINDS {
         for n in TASK_COUNTS {
             let setup = setup(kind, n);
             let mut trace = setup.trace(&each((0..n as u8).rev(), 2));
@@ -269,8 +275,12 @@ fn every_task_count(recorder: &mut Recorder) {
 /// What was kept before is lost. That 12 is before 8 too stands with the longest requests.
 fn refused_setups(recorder: &mut Recorder) {
     for (kind, n, modulus, parents, starts) in [
-        (4, 2, 0, &[][..], &[][..]),
-        (4, 0, 2, &[1], &[9]),
+        (5, 2, 0, &[][..], &[][..]),
+        (5, 0, 2, &[1], &[9]),
+        (4, 65, 0, &[], &[]),
+        (4, 2, 3, &[], &[]),
+        (4, 2, 0, &[0, 0], &[]),
+        (4, 2, 0, &[], &[0, 0]),
         (0, 0, 3, &[], &[]),
         (0, 65, 3, &[], &[0; 65]),
         (2, 0, 1, &[], &[]),
@@ -303,7 +313,7 @@ fn refused_setups(recorder: &mut Recorder) {
 
 /// 15 for every kind: after 12, before 14, with the same traces.
 fn refused_works(recorder: &mut Recorder) {
-    for kind in 0..=3 {
+    for kind in KINDS {
         let good = setup(kind, 2);
         for works in [&[0][..], &[1], &[0, 1], &[1, 0], &[0, 0], &[1, 1, 1], &[1, 1, 0], &[1, 1]] {
             let worked = Setup { works: works.to_vec(), ..good.clone() };
@@ -323,7 +333,7 @@ fn refused_works(recorder: &mut Recorder) {
 
 /// 14 for every kind, and what is kept then; lengths of 0 to 9.
 fn refused_lengths(recorder: &mut Recorder) {
-    for kind in 0..=3 {
+    for kind in KINDS {
         let setup = setup(kind, 3);
         let trace = setup.trace(&cycle(3, 3));
         for length in 0..=9 {

@@ -4,7 +4,7 @@
 use super::fresh::{accepted_setup, any_setup};
 use super::steps::{any_run, turn_of_someone};
 use super::values::any_task_count;
-use crate::machine::SYMMETRIC;
+use crate::machine::{KINDS, SYMMETRIC};
 use crate::playback::MAX_TRACE;
 use crate::random::Random;
 use crate::recorder::Recorder;
@@ -33,7 +33,7 @@ pub fn plays_without_starts(recorder: &mut Recorder, random: &mut Random) {
 
 /// A trace that may be as long as traces can be, or too long. Its setup may be refused too.
 pub fn long_play(recorder: &mut Recorder, random: &mut Random) {
-    let kind = random.below(4) as u8;
+    let kind = random.pick(&KINDS);
     let n = any_task_count(random);
     let mut setup = accepted_setup(random, kind, n);
     if random.once_in(4) {
@@ -53,7 +53,7 @@ pub fn long_play(recorder: &mut Recorder, random: &mut Random) {
 /// Makes an accepted setup one that is refused, for any of its reasons.
 fn refuse(random: &mut Random, setup: &mut Setup) {
     match random.below(7) {
-        0 => setup.kind = 4,
+        0 => setup.kind = 5,
         1 => setup.n = random.pick(&[0, 65]),
         2 => setup.modulus = 1,
         3 => setup.parents.push(0),
@@ -68,7 +68,7 @@ fn play_setup(random: &mut Random) -> Setup {
     if random.once_in(6) {
         return any_setup(random);
     }
-    let kind = random.below(4) as u8;
+    let kind = random.pick(&KINDS);
     let n = any_task_count(random);
     let mut setup = accepted_setup(random, kind, n);
     if random.once_in(10) {

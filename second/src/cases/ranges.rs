@@ -1,16 +1,17 @@
 //! Every field at and beyond the ends of its range, in used and unused fields, in tasks below N
 //! and from N on.
 
-use super::fields::{LEFT, LINE, MOVES, START, WAITS, WORK};
+use super::fields::{AIM, ARRIVALS, KIND, LEFT, LINE, MOVES, OWN_SENSE, SENSE};
+use super::fields::{START, WAITS, WORK};
 use super::values::TALLIES;
-use crate::machine::{FETCH_AND_INCREMENT, RING, SYMMETRIC, TREE};
+use crate::machine::{CENTRALIZED, FETCH_AND_INCREMENT, KINDS, RING, SYMMETRIC, TREE};
 use crate::parents;
 use crate::recorder::Recorder;
 use crate::requests::TASK_FIELDS;
 use crate::schedules::cycle;
 
 pub fn cases(recorder: &mut Recorder) {
-    for kind in 0..=3 {
+    for kind in KINDS {
         for n in [1, 3, 64] {
             begin(recorder, kind, n);
             shared_fields(recorder);
@@ -24,6 +25,8 @@ pub fn cases(recorder: &mut Recorder) {
     starts_of_fewer_tasks(recorder);
     tallies_of_fewer_tasks(recorder);
     works_of_fewer_tasks(recorder);
+    own_senses_of_fewer_tasks(recorder);
+    own_sense_or_aim(recorder);
     parents_of_a_running_tree(recorder);
 }
 
@@ -39,8 +42,8 @@ fn begin(recorder: &mut Recorder, kind: u8, n: usize) {
 /// Fields 9 to 13 at the values around their ends.
 fn shared_fields(recorder: &mut Recorder) {
     let n = recorder.n() as u64;
-    for kind in [0, 1, 2, 3, 4, 255] {
-        probe(recorder, 9, 0, kind);
+    for kind in [0, 1, 2, 3, 4, 5, 255] {
+        probe(recorder, KIND, 0, kind);
     }
     for count in [0, 1, n - 1, n, n + 1, 63, 64, 65, 255] {
         probe(recorder, 10, 0, count);
@@ -49,10 +52,10 @@ fn shared_fields(recorder: &mut Recorder) {
         probe(recorder, 11, 0, modulus);
     }
     for arrivals in [0, 1, n - 1, n, n + 1, 65, 255] {
-        probe(recorder, 12, 0, arrivals);
+        probe(recorder, ARRIVALS, 0, arrivals);
     }
     for sense in [0, 1, 2, 255] {
-        probe(recorder, 13, 0, sense);
+        probe(recorder, SENSE, 0, sense);
     }
 }
 
@@ -102,8 +105,8 @@ fn lists(n: u64, task: usize) -> Vec<u64> {
 }
 
 /// Asks for the ranges with one field changed. In range, 255 is no task and refused 9. The last
-/// task's fields are held against a run too, and so are the start, the tallies and the work of the
-/// one after it.
+/// task's fields are held against a run too, and so are the start, the tallies, the work and the
+/// own sense of the one after it.
 fn probe(recorder: &mut Recorder, field: u64, task: usize, value: u64) {
     let runs = task + 1 == recorder.n() || (task == recorder.n() && field >= START);
     recorder.with(field, task, value, |recorder| {
@@ -115,7 +118,7 @@ fn probe(recorder: &mut Recorder, field: u64, task: usize, value: u64) {
     });
 }
 
-/// One task more, once its line and its work are there.
+/// One task more, once its line and its work are there. Its own sense may be 0 in any kind.
 fn another_task(recorder: &mut Recorder, kind: u8) {
     for n in [1, 3, 63] {
         begin(recorder, kind, n);
@@ -132,29 +135,43 @@ fn another_task(recorder: &mut Recorder, kind: u8) {
     }
 }
 
-/// A state of one kind read as another: in range once the modulus and the sense fit.
+/// A state of one kind read as another: in range once the modulus, the senses and the arrivals
+/// fit.
 fn every_kind_for_every_kind(recorder: &mut Recorder) {
-    for from in 0..=3 {
-        for to in 0..=3 {
+    for from in KINDS {
+        for to in KINDS {
             begin(recorder, from, 3);
-            recorder.change(9, 0, to);
+            recorder.change(KIND, 0, to.into());
             recorder.ready();
-            recorder.change(11, 0, if to == 0 { 3 } else { 0 });
+            recorder.change(11, 0, if to == SYMMETRIC { 3 } else { 0 });
             recorder.ready();
-            recorder.change(13, 0, 0);
+            recorder.change(SENSE, 0, 0);
             recorder.ready();
+            if from == CENTRALIZED {
+                without_own_senses(recorder);
+            }
             recorder.run_all(&cycle(3, 9));
             recorder.show();
         }
     }
 }
 
+/// Takes away what kind 4 alone has: first its arrivals, then the tasks' own senses.
+fn without_own_senses(recorder: &mut Recorder) {
+    recorder.set(ARRIVALS, 0, 0);
+    recorder.ready();
+    for task in 0..3 {
+        recorder.set(OWN_SENSE, task, 0);
+        recorder.ready();
+    }
+}
+
 /// A symmetric state with starts read as another kind: in range once the starts are 0.
 fn starts_of_another_kind(recorder: &mut Recorder) {
-    for kind in [FETCH_AND_INCREMENT, RING, TREE] {
+    for kind in [FETCH_AND_INCREMENT, RING, TREE, CENTRALIZED] {
         recorder.fresh_starts(2, &[0, 1]);
         recorder.change(11, 0, 0);
-        recorder.change(9, 0, kind.into());
+        recorder.change(KIND, 0, kind.into());
         recorder.ready();
         recorder.turn(0);
         recorder.run_all(&[0, 1]);
@@ -185,7 +202,7 @@ fn starts_of_fewer_tasks(recorder: &mut Recorder) {
 
 /// One task fewer: the tallies that it had are out of range until both are 0.
 fn tallies_of_fewer_tasks(recorder: &mut Recorder) {
-    for kind in 0..=3 {
+    for kind in KINDS {
         recorder.fresh_kind(kind, 3);
         recorder.change(MOVES, 2, 2);
         recorder.change(WAITS, 2, 3);
@@ -193,18 +210,67 @@ fn tallies_of_fewer_tasks(recorder: &mut Recorder) {
         for field in [LINE, WORK, LEFT] {
             recorder.change(field, 2, 0);
         }
+        of_two_tasks(recorder);
         cleared(recorder, [MOVES, WAITS]);
     }
 }
 
 /// One task fewer: its work is out of range until the length and the moves left are 0.
 fn works_of_fewer_tasks(recorder: &mut Recorder) {
-    for kind in 0..=3 {
+    for kind in KINDS {
         for fields in [[WORK, LEFT], [LEFT, WORK]] {
             recorder.fresh_works(kind, 3, &[1, 2, 3]);
             recorder.change(10, 0, 2);
             recorder.change(LINE, 2, 0);
+            of_two_tasks(recorder);
             cleared(recorder, fields);
+        }
+    }
+}
+
+/// Takes away what kind 4 has of a third task: its own sense, and the arrivals above 2.
+fn of_two_tasks(recorder: &mut Recorder) {
+    if recorder.state().kind == CENTRALIZED {
+        recorder.set(OWN_SENSE, 2, 0);
+        recorder.set(ARRIVALS, 0, 2);
+    }
+}
+
+/// One task fewer: its own sense and the arrivals are out of range until both are lowered.
+fn own_senses_of_fewer_tasks(recorder: &mut Recorder) {
+    for n in [2, 3, 64] {
+        recorder.fresh_kind(CENTRALIZED, n);
+        recorder.change(10, 0, n as u64 - 1);
+        for field in [LINE, WORK, LEFT] {
+            recorder.change(field, n as u64 - 1, 0);
+        }
+        recorder.ready();
+        recorder.change(ARRIVALS, 0, n as u64 - 1);
+        recorder.ready();
+        recorder.turn(0);
+        recorder.run_all(&[0]);
+        recorder.change(OWN_SENSE, n as u64 - 1, 0);
+        recorder.ready();
+        recorder.run_all(&cycle(n - 1, 2 * n));
+        recorder.show();
+    }
+}
+
+/// Kind 1 has an aim and no own sense, kind 4 an own sense and no aim: each pair of the two, at
+/// each line.
+fn own_sense_or_aim(recorder: &mut Recorder) {
+    for kind in [FETCH_AND_INCREMENT, CENTRALIZED] {
+        for line in 11..=16 {
+            for (aim, own) in [(0, 0), (0, 1), (1, 0), (1, 1), (0, 2), (2, 0)] {
+                recorder.fresh_kind(kind, 2);
+                recorder.set(LINE, 1, line);
+                recorder.set(AIM, 1, aim);
+                recorder.set(OWN_SENSE, 1, own);
+                recorder.ready();
+                recorder.turn(1);
+                recorder.run_all(&[0, 1]);
+            }
+            recorder.show();
         }
     }
 }

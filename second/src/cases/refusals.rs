@@ -2,7 +2,7 @@
 //! Schedules of 65,536 turns and more stand with the long cases, counts with the limits; tallies
 //! have their own part.
 
-use crate::machine::{Tables, FETCH_AND_INCREMENT, RING, SYMMETRIC, TREE};
+use crate::machine::{Tables, CENTRALIZED, FETCH_AND_INCREMENT, KINDS, RING, SYMMETRIC, TREE};
 use crate::recorder::Recorder;
 use crate::schedules::cycle;
 
@@ -41,7 +41,7 @@ fn turned_away_by_zeros(recorder: &mut Recorder) {
 
 /// 2 and 3 of a fresh state.
 fn fresh_kinds_and_counts(recorder: &mut Recorder) {
-    for kind in 0..=3 {
+    for kind in 0..=4 {
         for n in [0, 1, 2, 63, 64, 65, 255, 256, 257, 320, u64::MAX] {
             let modulus = if kind == 0 { 3 } else { 0 };
             let table = if kind == 3 { n.min(65) } else { 0 };
@@ -49,7 +49,7 @@ fn fresh_kinds_and_counts(recorder: &mut Recorder) {
             recorder.ready();
         }
     }
-    for kind in [4, 5, 255, 256, 259, 1 << 32, u64::MAX] {
+    for kind in [5, 6, 255, 256, 259, 260, 1 << 32, (1 << 32) + 4, u64::MAX] {
         recorder.fresh(kind, 2, 0, &[]);
         recorder.fresh(kind, 2, 3, &[]);
         recorder.fresh(kind, 2, 0, &[0, 0]);
@@ -66,6 +66,8 @@ fn fresh_moduli(recorder: &mut Recorder) {
         recorder.fresh(RING.into(), 2, modulus, &[]);
         recorder.fresh(TREE.into(), 2, modulus, &[0, 0]);
         recorder.ready();
+        recorder.fresh(CENTRALIZED.into(), 2, modulus, &[]);
+        recorder.ready();
     }
     recorder.show();
 }
@@ -77,7 +79,7 @@ fn fresh_tables(recorder: &mut Recorder) {
             recorder.fresh(TREE.into(), n, 0, &vec![0; length as usize]);
         }
     }
-    for kind in [SYMMETRIC, FETCH_AND_INCREMENT, RING] {
+    for kind in [SYMMETRIC, FETCH_AND_INCREMENT, RING, CENTRALIZED] {
         let modulus = if kind == SYMMETRIC { 3 } else { 0 };
         for length in [0, 1, 2, 3, 64] {
             recorder.fresh(kind.into(), 2, modulus, &vec![0; length]);
@@ -107,9 +109,13 @@ fn fresh_parent(recorder: &mut Recorder, n: usize, task: usize) {
 
 /// The order of 2 to 6 where two or more apply.
 fn fresh_order(recorder: &mut Recorder) {
-    recorder.fresh(4, 0, 0, &[]);
-    recorder.fresh(4, 65, 2, &[1]);
-    recorder.fresh(4, 2, 300, &[1]);
+    recorder.fresh(5, 0, 0, &[]);
+    recorder.fresh(5, 65, 2, &[1]);
+    recorder.fresh(5, 2, 300, &[1]);
+    recorder.fresh(4, 0, 3, &[0]);
+    recorder.fresh(4, 65, 0, &[]);
+    recorder.fresh(4, 2, 3, &[0, 0]);
+    recorder.fresh(4, 2, 0, &[1]);
     recorder.fresh(0, 0, 2, &[]);
     recorder.fresh(0, 65, 0, &[0]);
     recorder.fresh(3, 0, 1, &[]);
@@ -136,7 +142,7 @@ fn fresh_with_starts(recorder: &mut Recorder, kind: u8, n: usize, starts: &[u8])
 
 /// 12 of a fresh state: the length of the start table, for every kind.
 fn fresh_start_lengths(recorder: &mut Recorder) {
-    for kind in [SYMMETRIC, FETCH_AND_INCREMENT, RING, TREE] {
+    for kind in KINDS {
         for n in [1, 2, 3, 63, 64] {
             for length in [0, 1, n - 1, n, n + 1, 256, 256 + n] {
                 fresh_with_starts(recorder, kind, n, &vec![0; length]);
@@ -149,7 +155,7 @@ fn fresh_start_lengths(recorder: &mut Recorder) {
 
 /// 12 of a fresh state: the entries of the start table, for every kind.
 fn fresh_start_entries(recorder: &mut Recorder) {
-    for kind in [SYMMETRIC, FETCH_AND_INCREMENT, RING, TREE] {
+    for kind in KINDS {
         for n in [1_usize, 2, 3, 63, 64] {
             for task in [0, n / 2, n - 1] {
                 fresh_start(recorder, kind, n, task);
@@ -175,8 +181,14 @@ fn fresh_start(recorder: &mut Recorder, kind: u8, n: usize, task: usize) {
 /// The order of 2 to 6 and 12 where two or more apply, and 12 alone beside good parents.
 fn fresh_start_order(recorder: &mut Recorder) {
     for (kind, n, modulus, parents, starts) in [
-        (4, 2, 0, &[][..], &[9][..]),
+        (5, 2, 0, &[][..], &[][..]),
+        (5, 2, 0, &[], &[9]),
+        (5, 0, 2, &[1], &[9]),
         (4, 0, 2, &[1], &[9]),
+        (4, 2, 3, &[0, 0], &[0, 0]),
+        (4, 2, 0, &[0, 0], &[0, 0]),
+        (4, 2, 0, &[], &[0, 0]),
+        (4, 2, 0, &[], &[]),
         (0, 0, 3, &[], &[0]),
         (0, 65, 3, &[], &[64; 65]),
         (0, 65, 3, &[], &[65; 65]),
@@ -207,7 +219,7 @@ fn fresh_start_order(recorder: &mut Recorder) {
 
 /// 15 of a fresh state: the length of the work table, for every kind.
 fn fresh_work_lengths(recorder: &mut Recorder) {
-    for kind in [SYMMETRIC, FETCH_AND_INCREMENT, RING, TREE] {
+    for kind in KINDS {
         for n in [1, 2, 3, 63, 64] {
             for length in [0, 1, n - 1, n, n + 1, 256 + n] {
                 recorder.fresh_works(kind, n, &vec![1; length]);
@@ -220,7 +232,7 @@ fn fresh_work_lengths(recorder: &mut Recorder) {
 
 /// 15 of a fresh state: the entries of the work table, for every kind.
 fn fresh_work_entries(recorder: &mut Recorder) {
-    for kind in [SYMMETRIC, FETCH_AND_INCREMENT, RING, TREE] {
+    for kind in KINDS {
         for n in [1_usize, 2, 3, 64] {
             for task in [0, n / 2, n - 1] {
                 fresh_work(recorder, kind, n, task);
@@ -250,8 +262,13 @@ fn fresh_work(recorder: &mut Recorder, kind: u8, n: usize, task: usize) {
 /// The order of 2 to 6, 12 and 15 where two or more apply, and 15 alone beside good tables.
 fn fresh_work_order(recorder: &mut Recorder) {
     for (kind, n, modulus, [parents, starts, works]) in [
-        (4, 2, 0, [&[][..], &[], &[0]]),
+        (5, 2, 0, [&[][..], &[], &[1, 0]]),
+        (4, 65, 0, [&[], &[], &[0; 65]]),
+        (4, 2, 3, [&[], &[], &[1]]),
+        (4, 2, 0, [&[0, 0], &[], &[0, 0]]),
+        (4, 2, 0, [&[], &[0, 0], &[0, 1]]),
         (4, 2, 0, [&[], &[], &[1, 0]]),
+        (4, 2, 0, [&[], &[], &[1, 2]]),
         (0, 0, 3, [&[], &[], &[1]]),
         (0, 65, 3, [&[], &[], &[1; 65]]),
         (2, 65, 0, [&[], &[], &[0; 65]]),
@@ -400,7 +417,7 @@ fn first_passes(recorder: &mut Recorder) {
 
 /// 2, 3 and 10 of a shape, and their order.
 fn shapes(recorder: &mut Recorder) {
-    for shape in [0, 1, 2, 3, 4, 255, 256, u64::MAX] {
+    for shape in [0, 1, 2, 3, 4, 5, 255, 256, u64::MAX] {
         for n in [0, 1, 64, 65, 256, u64::MAX] {
             let length = n.min(66);
             for table in [0, length.saturating_sub(1), length, length + 1] {

@@ -1,10 +1,9 @@
 //! Rounds: where the least count rises, by single turns and by runs, in reached states and in
 //! edited ones whose counts are spread.
 
-use super::fields::{AIM, ARRIVALS, COUNT, LINE, TAG};
-use crate::machine::{
-    counting_line, turn, Outcome, State, FETCH_AND_INCREMENT, RING, SYMMETRIC, TREE,
-};
+use super::fields::{AIM, ARRIVALS, COUNT, LINE, OWN_SENSE, TAG};
+use crate::machine::{counting_line, turn, Outcome, State, CENTRALIZED, FETCH_AND_INCREMENT};
+use crate::machine::{KINDS, RING, SYMMETRIC, TREE};
 use crate::parents;
 use crate::recorder::Recorder;
 use crate::schedules::{cycle, each, repeat};
@@ -29,7 +28,7 @@ const RISES: [Rises; 10] = [
 const RUNS: [[u64; 3]; 4] = [[5, 7, 9], [9, 5, 5], [6, 5, 6], [1, 70_000, 2]];
 
 pub fn cases(recorder: &mut Recorder) {
-    for kind in [SYMMETRIC, FETCH_AND_INCREMENT, RING, TREE] {
+    for kind in KINDS {
         one_task(recorder, kind);
         run_in_pieces(recorder, kind);
         pairs(recorder, kind);
@@ -44,10 +43,12 @@ pub fn cases(recorder: &mut Recorder) {
         stopped_by_the_limit(recorder, kind);
         refused_runs(recorder, kind);
     }
-    input_of_the_sheet(recorder);
     one_alone(recorder);
     one_alone_of_64(recorder);
-    stopped_by_arrivals(recorder);
+    for kind in [FETCH_AND_INCREMENT, CENTRALIZED] {
+        input_of_the_sheet(recorder, kind);
+        stopped_by_arrivals(recorder, kind);
+    }
     too_long_run(recorder);
 }
 
@@ -63,9 +64,19 @@ fn spread(recorder: &mut Recorder, kind: u8, counts: &[u64]) {
 
 /// A turn of a task at the line where its count rises. No arrivals stand in its way.
 fn rise(recorder: &mut Recorder, task: usize) {
-    recorder.set(LINE, task, counting_line(recorder.state().kind).into());
-    recorder.set(ARRIVALS, 0, 0);
+    let kind = recorder.state().kind;
+    recorder.set(LINE, task, counting_line(kind).into());
+    recorder.set(ARRIVALS, 0, arrivals(kind, recorder.n() as u64, 0));
     recorder.turn(task as u64);
+}
+
+/// The shared number that says that so many of n tasks have arrived: kind 4 counts those that
+/// haven't.
+fn arrivals(kind: u8, n: u64, arrived: u64) -> u64 {
+    match kind {
+        CENTRALIZED => n - arrived,
+        _ => arrived,
+    }
 }
 
 /// A symmetric state in which one task never waits: the others' tags are never its old one.
@@ -130,15 +141,15 @@ fn run_in_pieces(recorder: &mut Recorder, kind: u8) {
     recorder.show();
 }
 
-/// The sheet's input: turn by turn, and by runs of each allowance.
-fn input_of_the_sheet(recorder: &mut Recorder) {
+/// The sheet's input, of kinds 1 and 4: turn by turn, and by runs of each allowance.
+fn input_of_the_sheet(recorder: &mut Recorder, kind: u8) {
     let schedule = [0, 0, 0, 0, 1, 1, 1, 1, 1, 0];
-    recorder.fresh_kind(FETCH_AND_INCREMENT, 2);
+    recorder.fresh_kind(kind, 2);
     for task in schedule {
         recorder.turn(task.into());
     }
     for allowance in 0..=10 {
-        recorder.fresh_kind(FETCH_AND_INCREMENT, 2);
+        recorder.fresh_kind(kind, 2);
         recorder.run(allowance, 20, &schedule);
     }
 }
@@ -231,21 +242,22 @@ fn stopped_by_the_limit(recorder: &mut Recorder, kind: u8) {
 
 /// Runs that 7 stops at a turn keep the rounds before it; the refused turn closes none, even where
 /// its task alone stands at the least count.
-fn stopped_by_arrivals(recorder: &mut Recorder) {
-    for (counts, arrivals, schedule) in [
+fn stopped_by_arrivals(recorder: &mut Recorder, kind: u8) {
+    // The task of the last schedule doesn't wait at 16 and rises twice: what it awaits is there.
+    let signal = if kind == CENTRALIZED { OWN_SENSE } else { AIM };
+    for (counts, arrived, schedule) in [
         ([4, 6, 9], 1, &[0, 1, 2, 0][..]),
         ([4, 4, 9], 1, &[0, 1, 2, 0]),
         ([6, 4, 9], 2, &[0, 1]),
         ([6, 4, 9], 3, &[1, 0]),
         ([4, 9, 9], 1, &[0, 0, 0, 0, 0, 1]),
     ] {
-        spread(recorder, FETCH_AND_INCREMENT, &counts);
+        spread(recorder, kind, &counts);
         for task in 0..3 {
             recorder.set(LINE, task, 13);
-            // The task of the last schedule doesn't wait at 16 and rises twice.
-            recorder.set(AIM, task, 1);
+            recorder.set(signal, task, 1);
         }
-        recorder.set(ARRIVALS, 0, arrivals);
+        recorder.set(ARRIVALS, 0, arrivals(kind, 3, arrived));
         recorder.run_all(schedule);
         recorder.show();
         for task in 0..3 {

@@ -1,12 +1,14 @@
 //! Random cases: scenes of every sort, and runs from fresh, continued and damaged states.
 
 use super::calls::{any_first_pass, any_passes, any_shape, misspelt};
+use super::centralized::any_pair;
 use super::damage::{damage, damage_for_a_while, state_in_range};
 use super::damage::{near_full_tallies, near_the_end_of_work, near_the_limit, spread_counts};
 use super::fresh::{accepted_fresh, any_fresh};
 use super::plays::{any_plays, long_play, plays_without_starts};
 use super::steps::{any_run, turn_of_ready, turn_of_someone};
 use super::values::{any_task_count, near_length, TASK_COUNTS};
+use crate::machine::KINDS;
 use crate::passes::Passes;
 use crate::random::Random;
 use crate::recorder::Recorder;
@@ -17,7 +19,7 @@ use crate::schedules;
 /// Runs of every kind and of the stored task counts, from fresh, continued and damaged states.
 pub fn stored_runs(recorder: &mut Recorder, random: &mut Random) {
     for _ in 0..3 {
-        for kind in 0..=3 {
+        for kind in KINDS {
             for n in TASK_COUNTS {
                 accepted_fresh(recorder, random, kind, n);
                 any_run(recorder, random, 160);
@@ -61,7 +63,7 @@ pub fn requests(recorder: &mut Recorder, random: &mut Random, count: usize) {
 
 /// One random scene.
 fn scene(recorder: &mut Recorder, random: &mut Random) {
-    match random.below(22) {
+    match random.below(23) {
         0..=4 => life(recorder, random),
         5..=7 => state_in_range(recorder, random),
         8 | 9 => near_the_limit(recorder, random),
@@ -74,13 +76,14 @@ fn scene(recorder: &mut Recorder, random: &mut Random) {
         16 | 17 => near_full_tallies(recorder, random),
         18 | 19 => any_plays(recorder, random),
         20 => near_the_end_of_work(recorder, random),
+        21 => any_pair(recorder, random),
         _ => many_turns(recorder, random),
     }
 }
 
 /// A fresh state and some requests of it.
 fn life(recorder: &mut Recorder, random: &mut Random) {
-    let kind = random.below(4) as u8;
+    let kind = random.pick(&KINDS);
     let n = any_task_count(random);
     accepted_fresh(recorder, random, kind, n);
     for _ in 0..random.length(3, 20) {
@@ -103,7 +106,7 @@ fn act(recorder: &mut Recorder, random: &mut Random) {
 
 /// A schedule that may be as long as schedules can be, or too long.
 fn long_schedule(recorder: &mut Recorder, random: &mut Random) {
-    let kind = random.below(4) as u8;
+    let kind = random.pick(&KINDS);
     let n = any_task_count(random);
     accepted_fresh(recorder, random, kind, n);
     let length = random.pick(&[5_000, 20_000, 65_535, 65_536, 65_537, 70_000, 70_001]);
@@ -119,7 +122,7 @@ fn long_schedule(recorder: &mut Recorder, random: &mut Random) {
 
 /// Single turns, enough of them for several rounds.
 fn many_turns(recorder: &mut Recorder, random: &mut Random) {
-    let kind = random.below(4) as u8;
+    let kind = random.pick(&KINDS);
     let n = random.length(1, 6);
     accepted_fresh(recorder, random, kind, n);
     for _ in 0..random.length(20, 120) {

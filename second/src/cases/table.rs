@@ -1,6 +1,7 @@
-//! The scope's "Cases for the table", in its order, and the traps that the paper sets.
+//! The scope's "Cases for the table", in its order, and the traps that the paper sets. Those of
+//! kind 1 are there of kind 4 too.
 
-use crate::machine::{FETCH_AND_INCREMENT, RING, SYMMETRIC, TREE};
+use crate::machine::{CENTRALIZED, FETCH_AND_INCREMENT, RING, SYMMETRIC, TREE};
 use crate::recorder::Recorder;
 use crate::schedules::repeat;
 
@@ -19,6 +20,7 @@ fn state_cases(recorder: &mut Recorder) {
     turns_and_run(recorder, SYMMETRIC, 1, 3, &[], &[0; 5]);
     let sheet = [0, 0, 0, 0, 1, 1, 1, 1, 1, 0];
     turns_and_run(recorder, FETCH_AND_INCREMENT, 2, 0, &[], &sheet);
+    turns_and_run(recorder, CENTRALIZED, 2, 0, &[], &sheet);
     turns_and_run(recorder, RING, 2, 0, &[], &[1, 1]);
     turns_and_run(recorder, RING, 2, 0, &[], &[0, 0, 0, 1, 1, 1, 0, 0, 1, 1]);
     turns_and_run(recorder, TREE, 2, 0, &[0, 0], &[0; 4]);
@@ -76,7 +78,8 @@ fn empty_cases(recorder: &mut Recorder) {
 pub fn traps(recorder: &mut Recorder) {
     ring_in_reverse(recorder);
     laggard_of_the_symmetric(recorder);
-    second_round_before_the_first_ends(recorder);
+    second_round_before_the_first_ends(recorder, FETCH_AND_INCREMENT);
+    second_round_before_the_first_ends(recorder, CENTRALIZED);
     flag_seen_but_kept(recorder);
     same_task_while_waiting(recorder);
 }
@@ -105,8 +108,8 @@ fn laggard_of_the_symmetric(recorder: &mut Recorder) {
 }
 
 /// Task 1 ends the first round and enters the second while task 0 still stands at 16.
-fn second_round_before_the_first_ends(recorder: &mut Recorder) {
-    recorder.fresh(FETCH_AND_INCREMENT.into(), 2, 0, &[]);
+fn second_round_before_the_first_ends(recorder: &mut Recorder, kind: u8) {
+    recorder.fresh(kind.into(), 2, 0, &[]);
     recorder.turns(&[0, 0, 0, 0, 1, 1, 1, 0, 1, 0, 1, 1, 1, 1, 1]);
     recorder.turns(&[0, 0, 0, 0, 0, 1, 0, 1, 0, 1]);
 }

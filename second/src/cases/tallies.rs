@@ -1,11 +1,11 @@
 //! Tallies: what they count over turns and runs, and 13 where one is full, at single turns, by
 //! ready and within runs. Their ranges stand with the others.
 
-use super::fields::{AIM, ARRIVALS, COUNT, FLAG, LINE, MOVES, TAG, TOGGLE, WAITS};
+use super::fields::{AIM, ARRIVALS, COUNT, FLAG, LINE, MOVES, OWN_SENSE, TAG, TOGGLE, WAITS};
 use super::rounds::closing_turns;
 use super::values::TASK_COUNTS;
 use crate::machine::{counting_line, turn, State, MAX_COUNT, MAX_TALLY};
-use crate::machine::{FETCH_AND_INCREMENT, RING, SYMMETRIC, TREE};
+use crate::machine::{CENTRALIZED, FETCH_AND_INCREMENT, KINDS, RING, SYMMETRIC};
 use crate::recorder::Recorder;
 use crate::schedules::{cycle, each, repeat};
 
@@ -16,7 +16,7 @@ const FULL: u64 = MAX_TALLY as u64;
 const PAIRS: [[u64; 2]; 4] = [[FULL - 1; 2], [FULL - 1, FULL], [FULL, FULL - 1], [FULL; 2]];
 
 pub fn cases(recorder: &mut Recorder) {
-    for kind in [SYMMETRIC, FETCH_AND_INCREMENT, RING, TREE] {
+    for kind in KINDS {
         sessions(recorder, kind);
         refused_turns(recorder, kind);
         refused_runs(recorder, kind);
@@ -30,7 +30,8 @@ pub fn cases(recorder: &mut Recorder) {
         full_at_a_closing_turn(recorder, kind);
         every_task_count(recorder, kind);
     }
-    full_arrivals(recorder);
+    full_arrivals(recorder, FETCH_AND_INCREMENT, [2, 3, 4]);
+    full_arrivals(recorder, CENTRALIZED, [1, 0, 4]);
 }
 
 // ---- what they count ----
@@ -117,6 +118,7 @@ fn every_line(recorder: &mut Recorder, kind: u8) {
         SYMMETRIC => (14, TAG),
         FETCH_AND_INCREMENT => (16, AIM),
         RING => (15, TOGGLE),
+        CENTRALIZED => (16, OWN_SENSE),
         _ => (18, FLAG),
     };
     for line in 11..=last {
@@ -156,12 +158,13 @@ fn full_counts(recorder: &mut Recorder, kind: u8) {
     }
 }
 
-/// Task 1 stands at 13 of kind 1: with arrivals N it is refused 7, whatever its count and tallies.
-fn full_arrivals(recorder: &mut Recorder) {
-    for arrivals in [2, 3, 4] {
+/// Task 1 stands at 13 of kind 1 or 4, with an arrival still to come, with all there, and with
+/// more than there can be: the last two are refused 7, whatever its count and tallies.
+fn full_arrivals(recorder: &mut Recorder, kind: u8, others: [u64; 3]) {
+    for arrivals in others {
         for count in [MAX_COUNT - 1, MAX_COUNT] {
             for tallies in PAIRS {
-                three(recorder, FETCH_AND_INCREMENT, tallies);
+                three(recorder, kind, tallies);
                 recorder.set(LINE, 1, 13);
                 recorder.set(COUNT, 1, count.into());
                 recorder.set(ARRIVALS, 0, arrivals);

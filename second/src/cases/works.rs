@@ -5,7 +5,7 @@
 use super::fields::{COUNT, LEFT, LINE, MOVES, WORK};
 use super::rounds::cut_runs;
 use super::values::TASK_COUNTS;
-use crate::machine::{Tables, FETCH_AND_INCREMENT, MAX_COUNT, MAX_TALLY};
+use crate::machine::{Tables, CENTRALIZED, FETCH_AND_INCREMENT, KINDS, MAX_COUNT, MAX_TALLY};
 use crate::machine::{RING, SYMMETRIC, TREE};
 use crate::parents;
 use crate::recorder::Recorder;
@@ -20,7 +20,7 @@ const THREE: [[u8; 3]; 5] = [[3, 1, 2], [1, 5, 1], [2, 2, 2], [9, 4, 1], [1, 1, 
 const VALUES: [u64; 5] = [0, 1, 2, 3, 255];
 
 pub fn cases(recorder: &mut Recorder) {
-    for kind in [SYMMETRIC, FETCH_AND_INCREMENT, RING, TREE] {
+    for kind in KINDS {
         for work in [2, 255] {
             around_the_last_move(recorder, kind, work);
         }
@@ -50,7 +50,7 @@ pub fn cases(recorder: &mut Recorder) {
 fn last_line(kind: u8) -> u64 {
     match kind {
         SYMMETRIC => 14,
-        FETCH_AND_INCREMENT => 16,
+        FETCH_AND_INCREMENT | CENTRALIZED => 16,
         RING => 15,
         _ => 18,
     }

@@ -21,7 +21,7 @@ pub fn add(plays: &mut Plays) {
 
 /// 2, 3 and 4.
 fn heads(plays: &mut Plays) {
-    for kind in [4, 258, 99_999] {
+    for kind in [5, 258, 260, 99_999] {
         plays.text(format!("refused-2-kind-{kind}"), spaced(&[kind, 2, 0, 0, 0, 0]));
     }
     for n in [0, 65, 258, 65_538] {
@@ -37,6 +37,9 @@ fn heads(plays: &mut Plays) {
     }
     plays.text("refused-4-ring-modulus-3", "2 2 3 0 0 0");
     plays.text("refused-4-ring-modulus-256", "2 2 256 0 0 0");
+    plays.text("refused-4-centralized-modulus-3", "4 2 3 0 0 0");
+    plays.text("refused-4-centralized-modulus-256", "4 2 256 0 0 0");
+    plays.text("agrees-centralized", "4 2 0 0 0 0");
 }
 
 /// 5, and 12 for the length of the start table.
@@ -45,10 +48,12 @@ fn table_lengths(plays: &mut Plays) {
     plays.text("refused-5-tree-one-parent-too-few", "3 2 0 1 0 0 0");
     plays.text("refused-5-tree-one-parent-too-many", "3 2 0 3 0 0 0 0 0");
     plays.text("refused-5-ring-with-parents", "2 2 0 2 0 0 0 0");
+    plays.text("refused-5-centralized-with-parents", "4 2 0 2 0 0 0 0");
     plays.text("refused-5-symmetric-with-a-parent", "0 2 3 1 2 0 0 1 0");
     plays.text("refused-12-one-start-too-few", "0 2 3 0 1 0 1");
     plays.text("refused-12-one-start-too-many", "0 2 3 0 3 0 1 0 0");
     plays.text("refused-12-ring-with-starts", "2 2 0 0 2 0 0 0");
+    plays.text("refused-12-centralized-with-starts", "4 2 0 0 2 0 0 0");
     plays.text("refused-12-tree-with-starts", "3 2 0 2 2 0 0 0 0 0");
     let many = Setup { n: 2, modulus: 3, starts: vec![0; 258], ..Setup::default() };
     plays.text("refused-12-starts-258", text(&many));
@@ -86,7 +91,7 @@ fn two(kind: u64, works: &[u8]) -> Setup {
 
 /// 15: the length and the entries of the work table, for each kind.
 fn works(plays: &mut Plays) {
-    for kind in 0..=3 {
+    for kind in 0..=4 {
         for (name, works) in [
             ("refused-15-one-work-too-few", &[1][..]),
             ("refused-15-one-work-too-many", &[1, 1, 1]),
@@ -112,7 +117,7 @@ fn large_works(plays: &mut Plays) {
 
 /// The longest work of one task of each kind: 255 moves, twice; one fewer and one more differ.
 fn longest_work(plays: &mut Plays) {
-    for kind in 0..=3 {
+    for kind in 0..=4 {
         let (modulus, starts) = if kind == 0 { (3, next(1)) } else { (0, Vec::new()) };
         let parents = vec![0; usize::from(kind == 3)];
         let setup = Setup { kind, n: 1, modulus, parents, starts, works: vec![255] };
@@ -132,6 +137,7 @@ fn most_tasks(plays: &mut Plays) {
         Setup { kind: 0, modulus: 255, starts: next(64), ..none.clone() },
         Setup { kind: 1, ..none.clone() },
         Setup { kind: 3, parents: vec![0; 64], ..none.clone() },
+        Setup { kind: 4, ..none.clone() },
         none,
     ] {
         let name = format!("agrees-kind-{}-n-64", setup.kind);

@@ -16,6 +16,7 @@ pub fn add(plays: &mut Plays) {
     bytes_of_texts(plays);
     texts(plays);
     differences(plays);
+    centralized(plays);
 }
 
 /// Traces of no byte to six.
@@ -82,6 +83,44 @@ fn texts(plays: &mut Plays) {
     plays.add("differs-0-digits", RING, *b"0 11 1");
     plays.add("differs-1-carriage-return-and-line-feed-last", RING, [0, 11, 1, 13, 10, 10]);
     plays.add("refused-14-carriage-return-and-line-feed-last", RING, [0, 11, 1, 13, 10]);
+}
+
+/// A round of two tasks of kind 4, by hand, whole and with a triple that differs: the last to
+/// arrive goes to 14 and not to 16, and the other waits until 15 is done. Kind 1's trace is the
+/// same.
+fn centralized(plays: &mut Plays) {
+    let round = [
+        [0, 11, 1],
+        [0, 12, 1],
+        [0, 13, 1],
+        [0, 16, 0],
+        [1, 11, 1],
+        [1, 12, 1],
+        [1, 13, 1],
+        [1, 14, 1],
+        [0, 16, 0],
+        [1, 15, 1],
+        [0, 16, 1],
+    ];
+    for kind in [1, 4] {
+        let setup = format!("{kind} 2 0 0 0 0");
+        plays.add(format!("agrees-round-of-kind-{kind}"), &setup[..], round.concat());
+        for (index, triple) in [
+            (2, [0, 13, 0]),
+            (3, [0, 14, 1]),
+            (3, [0, 16, 1]),
+            (7, [1, 16, 0]),
+            (8, [0, 16, 1]),
+            (10, [0, 16, 0]),
+        ] {
+            let mut other = round;
+            other[index] = triple;
+            let [_, line, outcome] = triple;
+            let name =
+                format!("differs-{index}-round-of-kind-{kind}-line-{line}-outcome-{outcome}");
+            plays.add(name, &setup[..], other.concat());
+        }
+    }
 }
 
 /// Several triples that differ, and a line after the turn.

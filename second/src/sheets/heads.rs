@@ -1,9 +1,7 @@
 //! Texts around reasons 2 to 4: kinds, task counts and moduli on both sides of their ends.
 
 use super::texts::{head, spaced, Texts, LARGE};
-use crate::machine::{FETCH_AND_INCREMENT, RING, SYMMETRIC, TREE};
-
-const KINDS: [u8; 4] = [SYMMETRIC, FETCH_AND_INCREMENT, RING, TREE];
+use crate::machine::{KINDS, SYMMETRIC};
 
 pub fn add(texts: &mut Texts) {
     kinds_taken(texts);
@@ -22,16 +20,16 @@ fn with_turns(head: &[u64], tasks: u64) -> String {
     spaced(&[head, &turns, &turns].concat())
 }
 
-/// Kinds 0 to 3.
+/// Kinds 0 to 4.
 fn kinds_taken(texts: &mut Texts) {
     for kind in KINDS {
         texts.add(format!("taken-kind-{kind}"), with_turns(&head(kind, 2), 2));
     }
 }
 
-/// Kinds from 4 on, with the R of either sort; 259 and 65,539 would be 3 if they were cut.
+/// Kinds from 5 on, with the R of either sort; 260 and 65,540 would be 4 if they were cut.
 fn kinds_refused(texts: &mut Texts) {
-    for kind in [4, 5, 10, 259, 65_539].into_iter().chain(LARGE) {
+    for kind in [5, 6, 10, 260, 65_540].into_iter().chain(LARGE) {
         texts.add(format!("refused-2-kind-{kind}-modulus-0"), with_turns(&[kind, 2, 0], 2));
         texts.add(format!("refused-2-kind-{kind}-modulus-3"), with_turns(&[kind, 2, 3], 2));
     }

@@ -1,7 +1,9 @@
 //! Texts of the scope: its example, its cases for the table and its trap of the ring, as sheets.
+//! The example is there of kind 4 too, whose sheets are those of kind 1.
 
 use super::texts::{spaced, wide, Texts};
 use crate::schedules::repeat;
+use crate::traces;
 
 /// The scope's example.
 const EXAMPLE: &str = "1 2 0 0 0 0 0 1 1 1 1 1 0";
@@ -9,6 +11,11 @@ const EXAMPLE: &str = "1 2 0 0 0 0 0 1 1 1 1 1 0";
 pub fn add(texts: &mut Texts) {
     texts.add("taken-example", EXAMPLE);
     texts.add("taken-example-line-feed", format!("{EXAMPLE}\n"));
+    texts.add("taken-example-of-kind-4", EXAMPLE.replacen('1', "4", 1));
+    texts.add("taken-centralized-five-turns", "4 1 0 0 0 0 0 0");
+    for kind in [1, 4] {
+        texts.add(format!("taken-overtaking-of-kind-{kind}"), overtaking(kind));
+    }
     texts.add("taken-symmetric-five-turns", "0 1 3 0 0 0 0 0");
     texts.add("taken-ring-second-turn-waits", "2 2 0 1 1");
     texts.add("taken-ring-whole-round", "2 2 0 0 0 0 1 1 1 0 0 1 1");
@@ -19,6 +26,11 @@ pub fn add(texts: &mut Texts) {
     texts.add("taken-tree-low-power", "3 6 0 0 0 0 2 0 4 5 5 5 5 0 1 2 3 4");
     texts.add("taken-ring-turns-without-passes", turns_without_passes());
     texts.add("taken-symmetric-one-round-ahead", one_round_ahead());
+}
+
+/// One task enters the second round while the other is still in the first.
+fn overtaking(kind: u64) -> String {
+    spaced(&[vec![kind, 2, 0], wide(&traces::overtaking())].concat())
 }
 
 /// A hundred turns of each task of a ring raise task 0's count alone.

@@ -15,6 +15,7 @@ pub fn add(texts: &mut Texts, random: &mut Random) {
         schedules(texts, random, &format!("kind-1-n-{n}"), n, &[1, n as u64, 0]);
         schedules(texts, random, &format!("kind-2-n-{n}"), n, &[2, n as u64, 0]);
         trees(texts, random, n);
+        schedules(texts, random, &format!("kind-4-n-{n}"), n, &[4, n as u64, 0]);
     }
 }
 

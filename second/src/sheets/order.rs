@@ -15,10 +15,10 @@ pub fn add(texts: &mut Texts) {
 fn reading_before_all(texts: &mut Texts) {
     let too_long = |text: &str| apart(text, " ", "", MAX_TEXT + 1);
     texts.add("refused-1-before-2-two-numbers", "9 9");
-    texts.add("refused-1-before-2-letter", "4 0 1 x");
-    texts.add("refused-1-before-2-six-digits", "4 0 1 000000");
-    texts.add("refused-1-before-2-kind-of-six-digits", "000004 1 0");
-    texts.add("refused-1-before-2-too-long", too_long("4 0 1"));
+    texts.add("refused-1-before-2-letter", "5 0 1 x");
+    texts.add("refused-1-before-2-six-digits", "5 0 1 000000");
+    texts.add("refused-1-before-2-kind-of-six-digits", "000005 1 0");
+    texts.add("refused-1-before-2-too-long", too_long("5 0 1"));
     texts.add("refused-1-before-3-letter", "2 0 0 x");
     texts.add("refused-1-before-3-too-long", too_long("2 65 0"));
     texts.add("refused-1-before-4-six-digits", "0 1 2 000000");
@@ -34,18 +34,20 @@ fn reading_before_all(texts: &mut Texts) {
 
 /// 2 before 3 to 9.
 fn kind_before_others(texts: &mut Texts) {
-    texts.add("refused-2-before-3-n-0", "4 0 0");
-    texts.add("refused-2-before-3-n-65", "4 65 0");
-    texts.add("refused-2-before-4", "4 2 1");
+    texts.add("refused-2-before-3-n-0", "5 0 0");
+    texts.add("refused-2-before-3-n-65", "5 65 0");
+    texts.add("refused-2-before-4", "5 2 1");
     texts.add("refused-2-before-all", "99999 99999 99999 99999");
-    texts.add("refused-2-before-9", "4 2 0 0 1 2");
-    texts.add("refused-2-no-parents-of-kind-4", "4 2 0");
+    texts.add("refused-2-before-9", "5 2 0 0 1 2");
+    texts.add("refused-2-no-parents-of-kind-5", "5 2 0");
 }
 
 /// 3 before 4 to 9.
 fn count_before_others(texts: &mut Texts) {
     texts.add("refused-3-before-4-symmetric", "0 0 2");
     texts.add("refused-3-before-4-ring", "2 65 1");
+    texts.add("refused-3-before-4-centralized", "4 0 3");
+    texts.add("refused-3-before-9-centralized", "4 65 0 65");
     texts.add("refused-3-before-4-and-5", "3 65 1 0");
     texts.add("refused-3-before-5", "3 65 0 0 0");
     texts.add("refused-3-before-5-n-99999", "3 99999 0 0 0");
@@ -64,6 +66,7 @@ fn modulus_before_others(texts: &mut Texts) {
     texts.add("refused-4-before-9-symmetric", "0 2 2 0 2");
     texts.add("refused-4-before-9-fetch-and-increment", "1 2 3 2");
     texts.add("refused-4-before-9-tree", "3 2 3 0 0 2");
+    texts.add("refused-4-before-9-centralized", "4 2 3 2");
 }
 
 /// 5 before 6 and before 9, which no turn is there for; 6 before 9.

@@ -26,7 +26,7 @@ pub fn add(texts: &mut Texts, random: &mut Random) {
 
 /// The numbers of a text that is taken.
 fn good(random: &mut Random) -> Vec<u64> {
-    let kind = random.below(4);
+    let kind = random.below(5);
     let n = if random.once_in(6) { random.length(1, 64) } else { random.length(1, 5) };
     let modulus = if kind == 0 { random.pick(&[3, 3, 4, 5, 254, 255]) } else { 0 };
     let parents = parents::any(random, if kind == 3 { n } else { 0 });
@@ -44,7 +44,7 @@ fn with_another_number(random: &mut Random) -> Vec<u64> {
         1 => random.length(0, 2),
         _ => random.length(2, last.min(7)),
     };
-    numbers[place] = if random.once_in(2) { random.pick(&LARGE) } else { random.below(6) };
+    numbers[place] = if random.once_in(2) { random.pick(&LARGE) } else { random.below(7) };
     numbers
 }
 

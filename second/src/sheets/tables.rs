@@ -83,6 +83,8 @@ fn several(texts: &mut Texts) {
     texts.add("taken-turns-after-two-parents", "3 2 0 0 0 1 1 0 1");
     texts.add("taken-turns-after-three-parents", "3 3 0 0 0 1 1 0 1");
     texts.add("refused-5-turns-taken-for-parents", "3 6 0 0 0 1 1 0");
+    texts.add("taken-turns-of-kind-4-are-no-parents", "4 2 0 1 1 0");
+    texts.add("taken-one-turn-of-kind-4-is-no-parent", "4 3 0 2");
 }
 
 /// All four shapes.

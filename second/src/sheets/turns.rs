@@ -1,10 +1,11 @@
 //! Texts around reason 9: turns that name no task, with their places, and empty schedules.
 
 use super::texts::{head, spaced, wide, Texts, LARGE};
+use crate::machine::KINDS;
 use crate::schedules::{cycle, repeat};
 
 pub fn add(texts: &mut Texts) {
-    for kind in 0..=3 {
+    for kind in KINDS {
         no_turns(texts, kind);
         ends_of_tasks(texts, kind);
         large_turns(texts, kind);
@@ -72,4 +73,5 @@ fn several(texts: &mut Texts) {
     texts.add("refused-9-place-0-one-turn", "2 1 0 1");
     texts.add("refused-9-place-2-parents-not-counted", "3 3 0 0 0 1 0 1 3 2");
     texts.add("refused-9-place-0-after-the-parents", "3 2 0 0 0 2");
+    texts.add("refused-9-place-2-no-parents-of-kind-4", "4 2 0 0 0 2");
 }

@@ -3,7 +3,7 @@
 
 use super::{all_rows, begin, least, number};
 use crate::cases;
-use crate::machine::{fresh, turn, Outcome, State, Tables};
+use crate::machine::{fresh, turn, Outcome, State, Tables, KINDS};
 use crate::parents;
 use crate::playback::{play, Verdict};
 use crate::random::Random;
@@ -32,18 +32,19 @@ fn played(setup: &Setup, trace: &[u8]) -> (Result<Verdict, Refusal>, State) {
     (answer, state)
 }
 
-/// The scope's cases for the table, as triples.
-fn by_hand() -> [(Setup, Vec<[u8; 3]>); 5] {
+/// The scope's cases for the table, as triples; its sheet as of kind 4 too.
+fn by_hand() -> [(Setup, Vec<[u8; 3]>); 6] {
     let sheet = [[0, 11, 1], [0, 12, 1], [0, 13, 1], [0, 16, 0], [1, 11, 1]];
     let sheet = [sheet, [[1, 12, 1], [1, 13, 1], [1, 14, 1], [1, 15, 1], [0, 16, 1]]].concat();
     let alone =
         [[0, 11, 1], [0, 12, 1], [0, 13, 1], [0, 15, 1], [0, 16, 1], [0, 17, 1], [0, 18, 1]];
     [
         (setup(0, 1), vec![[0, 11, 1], [0, 12, 1], [0, 13, 1], [0, 14, 1], [0, 13, 1]]),
-        (setup(1, 2), sheet),
+        (setup(1, 2), sheet.clone()),
         (setup(2, 2), vec![[1, 11, 1], [1, 12, 0]]),
         (setup(3, 2), vec![[0, 11, 1], [0, 12, 1], [0, 13, 1], [0, 14, 0]]),
         (setup(3, 1), alone.to_vec()),
+        (setup(4, 2), sheet),
     ]
 }
 
@@ -63,6 +64,7 @@ fn scope_cases_agree() {
     assert_eq!(ends[2], ([(11, 0, 0, 0), (12, 0, 1, 1)], 0, 0));
     assert_eq!(ends[3], ([(14, 0, 3, 1), (11, 0, 0, 0)], 0, 0));
     assert_eq!(ends[4], ([(11, 1, 7, 0), (0, 0, 0, 0)], 0, 0));
+    assert_eq!(ends[5], ends[1]);
 }
 
 /// A triple is changed: nothing of its turn is made, and those before it are.
@@ -129,7 +131,7 @@ fn plain(setup: &Setup, trace: &[u8]) -> (Result<Verdict, Refusal>, State) {
 #[test]
 fn all_short_traces() {
     let bytes = [0, 1, 2, 11, 12, 255];
-    for (kind, n) in [(0, 1), (1, 2), (2, 1), (2, 2), (3, 2)] {
+    for (kind, n) in [(0, 1), (1, 2), (2, 1), (2, 2), (3, 2), (4, 1), (4, 2)] {
         let setup = setup(kind, n);
         let mut agree = 0;
         for length in 0..=6 {
@@ -148,7 +150,7 @@ fn all_short_traces() {
 /// A random setup of up to 64 tasks, now and then one that is refused.
 fn any_setup(random: &mut Random) -> Setup {
     let n = if random.once_in(4) { random.length(1, 64) } else { random.length(1, 6) };
-    let mut setup = setup(random.below(4) as u8, n);
+    let mut setup = setup(random.pick(&KINDS), n);
     match setup.kind {
         0 if random.once_in(2) => setup.starts = schedules::uniform(random, n, n),
         3 => setup.parents = parents::any(random, n),
@@ -229,7 +231,12 @@ fn order_of_a_play_back() {
     let (long, cut) = (repeat(9, 65_537), [9]);
     let good = Tables::of_parents(&[0, 0]);
     for (kind, n, modulus, [parents, starts, works], expected) in [
-        (4, 0, 1, [&[1][..], &[9], &[0]], 2),
+        (5, 0, 1, [&[1][..], &[9], &[0]], 2),
+        (4, 65, 1, [&[1], &[9], &[0]], 3),
+        (4, 2, 1, [&[1], &[9], &[0]], 4),
+        (4, 2, 0, [&[0, 0], &[9], &[0]], 5),
+        (4, 2, 0, [&[], &[0, 0], &[0]], 12),
+        (4, 2, 0, [&[], &[], &[1, 0]], 15),
         (3, 0, 1, [&[1], &[9], &[0]], 3),
         (3, 2, 1, [&[1], &[9], &[0]], 4),
         (3, 2, 0, [&[1], &[9], &[0]], 5),
@@ -273,10 +280,10 @@ fn named_traces_of_every_sort() {
     assert_eq!(names.len(), named.len() + worked.len());
     assert!(named.iter().all(|named| named.setup.works.is_empty()));
     assert!(worked.iter().all(|worked| worked.setup.works.iter().any(|&work| work > 1)));
-    assert!(worked.iter().map(|worked| worked.setup.kind).eq(0..=3));
-    for kind in 0..=3 {
+    assert!(worked.iter().map(|worked| worked.setup.kind).eq(0..=4));
+    for kind in 0..=4 {
         let mut counts = named.iter().filter(|named| named.setup.kind == kind);
-        assert!(counts.clone().count() >= 3 && counts.any(|named| named.setup.n == 1));
+        assert!(counts.clone().count() >= 2 && counts.any(|named| named.setup.n == 1));
     }
     let rows = traces::table();
     let relying = named.iter().filter(|named| named.relies_on_the_start());

@@ -37,7 +37,7 @@ fn setups_by_hand() {
         ("3 2 0 2 0 0 0", "refused 1\n"),
         ("3 2 0 2 0 0 0 0 0", "refused 1\n"),
         ("0 2 3 99999 99999 0", "refused 1\n"),
-        ("4 0 2 1 1 0 9 9", "refused 2\n"),
+        ("5 0 2 1 1 0 9 9", "refused 2\n"),
         ("3 65 2 1 1 0 9 9", "refused 3\n"),
         ("3 2 2 1 1 0 9 9", "refused 4\n"),
         ("3 2 0 1 1 0 256 9", "refused 5\n"),
@@ -47,6 +47,22 @@ fn setups_by_hand() {
         ("0 2 3 0 1 0 0", "refused 12\n"),
         ("0 2 3 0 2 0 0 256", "refused 12\n"),
         ("0 2 3 0 2 0 99999 0", "refused 12\n"),
+    ] {
+        assert_eq!(play(setup.as_bytes(), &[0, 11, 1]), expected, "{setup}");
+    }
+}
+
+#[test]
+fn setups_of_kinds_4_and_5() {
+    for (setup, expected) in [
+        ("5 2 0 0 0 0", "refused 2\n"),
+        ("4 2 0 0 0 0", "agrees\n"),
+        ("4 2 0 0 0 2 255 1", "agrees\n"),
+        ("4 65 2 1 1 0 9 9", "refused 3\n"),
+        ("4 2 3 2 0 0 0 0", "refused 4\n"),
+        ("4 2 0 2 2 0 0 0 0 0", "refused 5\n"),
+        ("4 2 0 0 2 2 0 0 0 1", "refused 12\n"),
+        ("4 2 0 0 0 2 0 1", "refused 15\n"),
     ] {
         assert_eq!(play(setup.as_bytes(), &[0, 11, 1]), expected, "{setup}");
     }

@@ -7,23 +7,23 @@ use super::starts::nearest;
 use super::tallies::Given;
 use super::{all_rows, begin, begin_starts, begin_works, least};
 use crate::machine::{in_range, ready, step, turn, Outcome, State};
-use crate::machine::{FETCH_AND_INCREMENT, RING, SYMMETRIC, TREE};
+use crate::machine::{CENTRALIZED, FETCH_AND_INCREMENT, KINDS, RING, SYMMETRIC, TREE};
 use std::collections::HashSet;
 
 /// The fields that can differ between the reached states of one barrier, but the tallies, which
 /// say nothing about the rest.
-fn key(state: &State) -> Vec<u8> {
+pub fn key(state: &State) -> Vec<u8> {
     let n = usize::from(state.n);
     let mut key = vec![state.arrivals, state.sense];
     for task in &state.tasks[..n] {
         key.extend([task.line, task.count as u8, task.tag, task.old, task.list as u8]);
-        key.extend([task.looked, task.aim, task.toggle, task.flag, task.left]);
+        key.extend([task.looked, task.aim, task.toggle, task.flag, task.left, task.sense]);
     }
     key
 }
 
 /// Takes the least count off every count.
-fn lower(state: &mut State) {
+pub fn lower(state: &mut State) {
     let least = least(state);
     for task in &mut state.tasks[..usize::from(state.n)] {
         task.count -= least;
@@ -31,7 +31,7 @@ fn lower(state: &mut State) {
 }
 
 /// Visits every state reached from the fresh one. Gives their number.
-fn visit(fresh: State) -> usize {
+pub fn visit(fresh: State) -> usize {
     let mut seen = HashSet::from([key(&fresh)]);
     let mut open = vec![(fresh, Given::default())];
     while let Some((state, given)) = open.pop() {
@@ -84,7 +84,7 @@ fn check_progress(mut state: State) {
 
 /// The state after a turn, and the answers given until then. A wait raises the wait tally and
 /// changes nothing else; a move leaves every start and work length and the other tasks' lines,
-/// counts, lists, tallies and moves left alone, and says by how much the least count rose.
+/// counts, lists, tallies, senses and moves left alone, and says by how much the least count rose.
 fn turned(state: State, task: usize, mut given: Given) -> (State, Given) {
     let mut next = state;
     let outcome = turn(&mut next, task as u64);
@@ -115,6 +115,7 @@ fn turned(state: State, task: usize, mut given: Given) -> (State, Given) {
         assert_eq!((before.tag, before.old, before.aim), (after.tag, after.old, after.aim));
         assert_eq!((before.moves, before.waits), (after.moves, after.waits));
         assert_eq!((before.work, before.left), (after.work, after.left));
+        assert_eq!(before.sense, after.sense);
     }
     (next, given)
 }
@@ -154,6 +155,13 @@ fn fetch_and_increment() {
 }
 
 #[test]
+fn centralized() {
+    for n in 1..=5 {
+        assert!(visit(begin(CENTRALIZED, n, 0, &[])) > 4);
+    }
+}
+
+#[test]
 fn ring() {
     for n in 1..=6 {
         assert!(visit(begin(RING, n, 0, &[])) > 4);
@@ -185,7 +193,7 @@ fn tree() {
 /// Two tasks whose work takes one to three moves, and a few tables of three tasks.
 #[test]
 fn with_work() {
-    for kind in [SYMMETRIC, FETCH_AND_INCREMENT, RING, TREE] {
+    for kind in KINDS {
         for row in all_rows(3, 2) {
             let works = [row[0] + 1, row[1] + 1];
             let states = visit(begin_works(kind, &works));

@@ -2,8 +2,8 @@
 
 use super::{begin, begin_starts, fresh_number, number, starts_number};
 use crate::machine::{
-    fresh, in_range, ready, run, turn, Ending, Outcome, State, Tables, FETCH_AND_INCREMENT,
-    MAX_COUNT, RING, SYMMETRIC, TREE,
+    fresh, in_range, ready, run, turn, Ending, Outcome, State, Tables, CENTRALIZED,
+    FETCH_AND_INCREMENT, KINDS, MAX_COUNT, RING, SYMMETRIC, TREE,
 };
 use crate::passes::{first_pass, passes};
 use crate::refusal::Refusal;
@@ -20,7 +20,13 @@ fn three(kind: u8) -> State {
 
 #[test]
 fn order_of_a_fresh_state() {
-    assert_eq!(fresh_number(4, 0, 2, &[1]), 2);
+    assert_eq!(fresh_number(5, 0, 2, &[1]), 2);
+    assert_eq!(fresh_number(5, 2, 0, &[]), 2);
+    assert_eq!(fresh_number(260, 2, 0, &[]), 2);
+    assert_eq!(fresh_number(4, 0, 2, &[1]), 3);
+    assert_eq!(fresh_number(4, 2, 3, &[1]), 4);
+    assert_eq!(fresh_number(4, 2, 0, &[0, 0]), 5);
+    assert_eq!(fresh_number(4, 2, 0, &[]), 0);
     assert_eq!(fresh_number(0, 0, 2, &[1]), 3);
     assert_eq!(fresh_number(0, 1, 2, &[1]), 4);
     assert_eq!(fresh_number(0, 1, 256, &[]), 4);
@@ -34,7 +40,9 @@ fn order_of_a_fresh_state() {
 
 #[test]
 fn starts_come_after_the_other_tables() {
-    assert_eq!(starts_number(4, 2, 0, &[], &[9]), 2);
+    assert_eq!(starts_number(5, 2, 0, &[], &[9]), 2);
+    assert_eq!(starts_number(4, 2, 0, &[0], &[0, 0]), 5);
+    assert_eq!(starts_number(4, 2, 0, &[], &[0, 0]), 12);
     assert_eq!(starts_number(0, 0, 3, &[], &[9]), 3);
     assert_eq!(starts_number(0, 65, 3, &[], &[65; 65]), 3);
     assert_eq!(starts_number(0, 2, 2, &[], &[9]), 4);
@@ -56,6 +64,7 @@ fn lengths_of_start_tables() {
             let empty = if length == 0 { 0 } else { 12 };
             assert_eq!(starts_number(1, n as u64, 0, &[], &starts), empty);
             assert_eq!(starts_number(2, n as u64, 0, &[], &starts), empty);
+            assert_eq!(starts_number(4, n as u64, 0, &[], &starts), empty);
             assert_eq!(starts_number(3, n as u64, 0, &vec![0; n], &starts), empty);
         }
     }
@@ -107,7 +116,7 @@ fn order_of_a_turn() {
 
 #[test]
 fn count_at_its_limit() {
-    for (kind, line) in [(SYMMETRIC, 12), (FETCH_AND_INCREMENT, 13), (RING, 13), (TREE, 15)] {
+    for (kind, line) in KINDS.into_iter().zip([12, 13, 13, 15, 13]) {
         let mut state = three(kind);
         for task in &mut state.tasks[..3] {
             (task.line, task.count) = (line, MAX_COUNT);
@@ -162,12 +171,15 @@ fn run_stopped_or_spent() {
 
 #[test]
 fn run_stopped_by_arrivals() {
-    let mut state = three(FETCH_AND_INCREMENT);
-    state.arrivals = 3;
-    let mut log = [255; 8];
-    let report = run(&mut state, &[2, 2, 2, 0], 4, &mut log);
-    assert_eq!(report.ending, Ending::Stopped(Refusal::Range));
-    assert_eq!((report.turns, state.tasks[2].line), (2, 13));
+    for (kind, arrivals) in [(FETCH_AND_INCREMENT, 3), (CENTRALIZED, 0)] {
+        let mut state = three(kind);
+        state.arrivals = arrivals;
+        let mut log = [255; 8];
+        let report = run(&mut state, &[2, 2, 2, 0], 4, &mut log);
+        assert_eq!(report.ending, Ending::Stopped(Refusal::Range));
+        assert_eq!((report.turns, state.tasks[2].line), (2, 13));
+        assert_eq!(log, [11, 1, 12, 1, 255, 255, 255, 255]);
+    }
 }
 
 #[test]
@@ -185,6 +197,7 @@ fn order_of_passes() {
 #[test]
 fn order_of_shapes() {
     assert_eq!(number(shape(4, 0, &mut [])), 2);
+    assert_eq!(number(shape(4, 1, &mut [0])), 2);
     assert_eq!(number(shape(3, 0, &mut [])), 3);
     assert_eq!(number(shape(3, 65, &mut [0; 65])), 3);
     assert_eq!(number(shape(3, 64, &mut [0; 63])), 10);
@@ -222,11 +235,12 @@ fn check_highest(state: State, set: impl Fn(&mut State, u8), highest: u8) {
 
 #[test]
 fn ranges_of_the_fields() {
-    for (kind, [tag, old, looked, aim, toggle, flag, start]) in [
-        (SYMMETRIC, [4, 4, 2, 0, 0, 0, 2]),
-        (FETCH_AND_INCREMENT, [0, 0, 0, 1, 0, 0, 0]),
-        (RING, [0, 0, 0, 0, 1, 0, 0]),
-        (TREE, [0, 0, 2, 0, 0, 1, 0]),
+    for (kind, [tag, old, looked, aim, toggle, flag, start, sense]) in [
+        (SYMMETRIC, [4, 4, 2, 0, 0, 0, 2, 0]),
+        (FETCH_AND_INCREMENT, [0, 0, 0, 1, 0, 0, 0, 0]),
+        (RING, [0, 0, 0, 0, 1, 0, 0, 0]),
+        (TREE, [0, 0, 2, 0, 0, 1, 0, 0]),
+        (CENTRALIZED, [0, 0, 0, 0, 0, 0, 0, 1]),
     ] {
         let state = three(kind);
         for task in 0..64 {
@@ -238,17 +252,29 @@ fn ranges_of_the_fields() {
             check_highest(state, |state, value| state.tasks[task].toggle = value, used(toggle));
             check_highest(state, |state, value| state.tasks[task].flag = value, used(flag));
             check_highest(state, |state, value| state.tasks[task].start = value, used(start));
+            check_highest(state, |state, value| state.tasks[task].sense = value, used(sense));
         }
-        let fetches = kind == FETCH_AND_INCREMENT;
-        let (arrivals, sense) = if fetches { (3, 1) } else { (0, 0) };
+        let counts = [FETCH_AND_INCREMENT, CENTRALIZED].contains(&kind);
+        let (arrivals, sense) = if counts { (3, 1) } else { (0, 0) };
         check_highest(state, |state, value| state.arrivals = value, arrivals);
         check_highest(state, |state, value| state.sense = value, sense);
     }
 }
 
+/// A kind that there isn't is out of range, whichever kind the other fields are of.
+#[test]
+fn ranges_of_kinds() {
+    for state in KINDS.map(three) {
+        assert!(in_range(&state));
+        for kind in 5..=255 {
+            assert!(!in_range(&State { kind, ..state }));
+        }
+    }
+}
+
 #[test]
 fn ranges_of_lines_and_counts() {
-    for (kind, last) in [(SYMMETRIC, 14), (FETCH_AND_INCREMENT, 16), (RING, 15), (TREE, 18)] {
+    for (kind, last) in KINDS.into_iter().zip([14, 16, 15, 18, 16]) {
         let mut state = three(kind);
         for line in 0..=255 {
             state.tasks[2].line = line;

@@ -4,12 +4,10 @@
 use super::{begin, begin_any, counts, least, play};
 use crate::cases::rounds::closing_turns;
 use crate::machine::{counting_line, run, turn, Ending, Outcome, Report, State};
-use crate::machine::{FETCH_AND_INCREMENT, MAX_COUNT, RING, SYMMETRIC, TREE};
+use crate::machine::{CENTRALIZED, FETCH_AND_INCREMENT, KINDS, MAX_COUNT, RING, SYMMETRIC, TREE};
 use crate::random::Random;
 use crate::refusal::Refusal;
 use crate::schedules::{self, cycle, repeat};
-
-const KINDS: [u8; 4] = [SYMMETRIC, FETCH_AND_INCREMENT, RING, TREE];
 
 /// A fresh state but for these counts; a tree is flat.
 fn spread(kind: u8, counts: &[u32]) -> State {
@@ -25,7 +23,7 @@ fn spread(kind: u8, counts: &[u32]) -> State {
 /// Raises the task's count by a turn at the line where it rises. Gives whether that closed a round.
 fn rise(state: &mut State, task: usize) -> bool {
     state.tasks[task].line = counting_line(state.kind);
-    state.arrivals = 0;
+    state.arrivals = if state.kind == CENTRALIZED { state.n } else { 0 };
     let count = state.tasks[task].count;
     let outcome = turn(state, task as u64);
     assert_eq!(state.tasks[task].count, count + 1);
@@ -40,13 +38,12 @@ fn run_all(state: &mut State, schedule: &[u8]) -> Report {
 // ---- by hand ----
 
 /// One task: its round has 5 lines, or a tree's 7, and closes where the count rises. Line 12 of
-/// the symmetric barrier is the second turn, 13 of kinds 1 and 2 the third, 15 of a tree without
+/// the symmetric barrier is the second turn, 13 of kinds 1, 2 and 4 the third, 15 of a tree without
 /// children the fourth, after 11, 12 and 13.
 #[test]
 fn one_task() {
-    for (kind, turns, place) in
-        [(SYMMETRIC, 5, 1), (FETCH_AND_INCREMENT, 5, 2), (RING, 5, 2), (TREE, 7, 3)]
-    {
+    let places = [(5, 1), (5, 2), (5, 2), (7, 3), (5, 2)];
+    for (kind, (turns, place)) in KINDS.into_iter().zip(places) {
         let mut state = spread(kind, &[0]);
         let schedule = repeat(0, 3 * turns);
         let expected = [place, turns + place, 2 * turns + place];
@@ -62,11 +59,12 @@ fn one_task() {
 #[test]
 fn input_of_the_sheet() {
     let schedule = [0, 0, 0, 0, 1, 1, 1, 1, 1, 0];
-    let fresh = begin(FETCH_AND_INCREMENT, 2, 0, &[]);
-    assert_eq!(closing_turns(fresh, &schedule), [6]);
-    for (allowance, rounds) in [(0, 0), (6, 0), (7, 1), (10, 1)] {
-        let report = run(&mut fresh.clone(), &schedule, allowance, &mut [255; 20]);
-        assert_eq!(report.rounds, rounds);
+    for fresh in [FETCH_AND_INCREMENT, CENTRALIZED].map(|kind| begin(kind, 2, 0, &[])) {
+        assert_eq!(closing_turns(fresh, &schedule), [6]);
+        for (allowance, rounds) in [(0, 0), (6, 0), (7, 1), (10, 1)] {
+            let report = run(&mut fresh.clone(), &schedule, allowance, &mut [255; 20]);
+            assert_eq!(report.rounds, rounds);
+        }
     }
 }
 
@@ -246,9 +244,9 @@ fn stopped_by_the_limit() {
     assert_eq!((report.ending, report.turns, report.rounds), (stopped, 91, 10));
 }
 
-/// All three stand at 13, where arrivals of N refuse them. First tasks 0 and 1 arrive, then twice
-/// task 0, which doesn't wait at 16 as its aim is the sense. Last, the refused task alone stands at
-/// the least count.
+/// All three stand at 13, which refuses them once all have arrived. First tasks 0 and 1 arrive,
+/// then twice task 0, which doesn't wait at 16 as its aim, or its own sense, is the shared one.
+/// Last, the refused task alone stands at the least count.
 #[test]
 fn stopped_by_arrivals() {
     for (counts, arrivals, schedule, turns, rounds) in [
@@ -257,13 +255,17 @@ fn stopped_by_arrivals() {
         ([4, 5, 9], 1, &[0, 0, 0, 0, 0, 1], 5, 1),
         ([6, 4, 9], 2, &[0, 1], 1, 0),
     ] {
-        let mut state = spread(FETCH_AND_INCREMENT, &counts);
-        state.arrivals = arrivals;
-        for task in &mut state.tasks[..3] {
-            (task.line, task.aim) = (13, 1);
+        let mut up = spread(FETCH_AND_INCREMENT, &counts);
+        let mut down = spread(CENTRALIZED, &counts);
+        (up.arrivals, down.arrivals) = (arrivals, 3 - arrivals);
+        for task in 0..3 {
+            (up.tasks[task].line, up.tasks[task].aim) = (13, 1);
+            down.tasks[task].line = 13;
         }
-        let report = run_all(&mut state, schedule);
-        assert_eq!(report.ending, Ending::Stopped(Refusal::Range));
-        assert_eq!((report.turns, report.rounds), (turns, rounds));
+        for state in [&mut up, &mut down] {
+            let report = run_all(state, schedule);
+            assert_eq!(report.ending, Ending::Stopped(Refusal::Range));
+            assert_eq!((report.turns, report.rounds), (turns, rounds));
+        }
     }
 }

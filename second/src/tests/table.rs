@@ -1,7 +1,8 @@
 //! The scope's "Cases for the table", in its order.
 
 use super::{begin, counts, fresh_number, lines, play};
-use crate::machine::{run, Ending, State, FETCH_AND_INCREMENT, RING, SYMMETRIC, TREE};
+use crate::machine::{run, Ending, State, CENTRALIZED, FETCH_AND_INCREMENT};
+use crate::machine::{RING, SYMMETRIC, TREE};
 use crate::passes::passes;
 use crate::refusal::Refusal;
 use crate::shapes::shape;
@@ -25,6 +26,10 @@ fn input_of_the_sheet() {
     assert_eq!(lines(&state, 2), [11, 11]);
     assert_eq!(counts(&state, 2), [1, 1]);
     assert_eq!((state.sense, state.arrivals), (0, 0));
+    let mut state = begin(CENTRALIZED, 2, 0, &[]);
+    play(&mut state, &[0, 0, 0, 0, 1, 1, 1, 1, 1, 0]);
+    assert_eq!((lines(&state, 2), counts(&state, 2)), (vec![11, 11], vec![1, 1]));
+    assert_eq!((state.sense, state.arrivals), (0, 2));
 }
 
 #[test]

@@ -3,12 +3,11 @@
 
 use super::{begin, begin_any, number, play};
 use crate::machine::{counting_line, in_range, ready, run, step_if, turn, Ending, Outcome, State};
-use crate::machine::{FETCH_AND_INCREMENT, MAX_COUNT, MAX_TALLY, RING, SYMMETRIC, TREE};
+use crate::machine::{CENTRALIZED, FETCH_AND_INCREMENT, KINDS, RING, SYMMETRIC, TREE};
+use crate::machine::{MAX_COUNT, MAX_TALLY};
 use crate::random::Random;
 use crate::refusal::Refusal;
 use crate::schedules::{self, repeat};
-
-const KINDS: [u8; 4] = [SYMMETRIC, FETCH_AND_INCREMENT, RING, TREE];
 
 const MOVED: Result<Outcome, Refusal> = Ok(Outcome::Moved { closed: false });
 const WAITED: Result<Outcome, Refusal> = Ok(Outcome::Waited);
@@ -144,15 +143,17 @@ fn any_state(random: &mut Random) -> State {
     run(&mut state, &schedule, random.below(61), &mut [255; 120]);
     let (kind, line) = (state.kind, counting_line(state.kind));
     for task in &mut state.tasks[..usize::from(state.n)] {
-        let last = [14, 16, 15, 18][usize::from(kind)];
+        let last = [14, 16, 15, 18, 16][usize::from(kind)];
         match random.below(4) {
             0 => task.line = random.length(11, last) as u8,
             1 => (task.line, task.count) = (line, random.pick(&[MAX_COUNT - 1, MAX_COUNT])),
             _ => {}
         }
     }
-    if kind == FETCH_AND_INCREMENT && random.once_in(3) {
-        state.arrivals = state.n;
+    match kind {
+        FETCH_AND_INCREMENT if random.once_in(3) => state.arrivals = state.n,
+        CENTRALIZED if random.once_in(3) => state.arrivals = 0,
+        _ => {}
     }
     state
 }
@@ -314,17 +315,24 @@ fn only_the_tally_that_rises() {
     assert_eq!(state, before);
 }
 
-/// 7 of the range, 9, 7 of line 13 of kind 1, 11, 13: each is given where the later ones apply too.
+/// 7 of the range, 9, 7 of line 13 of kinds 1 and 4, 11, 13: each is given where the later ones
+/// apply too.
 #[test]
 fn order_of_a_turn() {
-    let mut state = begin(FETCH_AND_INCREMENT, 2, 0, &[]);
+    check_order(FETCH_AND_INCREMENT, 2);
+    check_order(CENTRALIZED, 0);
+}
+
+/// The order where all have arrived with this number of arrivals.
+fn check_order(kind: u8, all: u8) {
+    let mut state = begin(kind, 2, 0, &[]);
     for task in &mut state.tasks[..2] {
         (task.line, task.count) = (13, MAX_COUNT);
         (task.moves, task.waits) = (MAX_TALLY, MAX_TALLY);
     }
     state.arrivals = 3;
     assert_eq!(turn(&mut state, 2), Err(Refusal::Range));
-    state.arrivals = 2;
+    state.arrivals = all;
     assert_eq!(turn(&mut state, 2), Err(Refusal::Task));
     assert_eq!(turn(&mut state, 1), Err(Refusal::Range));
     state.arrivals = 1;
@@ -340,7 +348,7 @@ fn order_of_a_turn() {
 /// rounds fit the tally, and the next turn is refused.
 #[test]
 fn run_stopped_after_rounds() {
-    for (kind, turns) in [(SYMMETRIC, 5), (FETCH_AND_INCREMENT, 5), (RING, 5), (TREE, 7)] {
+    for (kind, turns) in KINDS.into_iter().zip([5, 5, 5, 7, 5]) {
         let parents = vec![0; usize::from(kind == TREE)];
         let mut fresh = begin(kind, 1, if kind == SYMMETRIC { 3 } else { 0 }, &parents);
         fresh.tasks[0].moves = MAX_TALLY - 3 * turns;

@@ -10,6 +10,7 @@ fn sheet_of_the_scope() {
     let expected = "task line count moves waits\n0 11 1 4 1\n1 11 1 5 0\npasses 2 least 1\n";
     assert_eq!(sheet(b"1 2 0 0 0 0 0 1 1 1 1 1 0"), expected);
     assert_eq!(sheet(b"\n 1\n\n2  0 0 0 0 00 1 1 1 1 1 00000\n"), expected);
+    assert_eq!(sheet(b"4 2 0 0 0 0 0 1 1 1 1 1 0"), expected);
 }
 
 #[test]
@@ -21,7 +22,11 @@ fn refused_sheets() {
         ("1 2 0\r\n", "refused 1\n"),
         ("1 2 000000", "refused 1\n"),
         ("1 2 0 100000", "refused 1\n"),
-        ("4 0 0", "refused 2\n"),
+        ("5 0 0", "refused 2\n"),
+        ("5 1 0", "refused 2\n"),
+        ("4 0 0", "refused 3\n"),
+        ("4 2 3", "refused 4\n"),
+        ("4 2 0 0 0 0 2", "refused 9 place 3\n"),
         ("1 0 0", "refused 3\n"),
         ("3 65 0 0", "refused 3\n"),
         ("0 1 2", "refused 4\n"),
@@ -66,16 +71,16 @@ fn check_replay(cases: &[(&str, &str)]) {
 
 /// Shows two tasks whose work takes one move each.
 fn one_move_each(fields: &mut [&str]) {
-    for place in [81, 82, 95, 96] {
+    for place in [81, 82, 96, 97] {
         fields[place] = "1";
     }
 }
 
 #[test]
 fn requests_of_a_state() {
-    let zeros = vec!["0"; 5 + 64 + 64 * 14].join(" ");
-    let mut fields = vec!["0"; 5 + 64 + 64 * 14];
-    for (place, value) in [(0, "1"), (1, "2"), (4, "1"), (69, "12"), (79, "1"), (83, "11")] {
+    let zeros = vec!["0"; 5 + 64 + 64 * 15].join(" ");
+    let mut fields = vec!["0"; 5 + 64 + 64 * 15];
+    for (place, value) in [(0, "1"), (1, "2"), (4, "1"), (69, "12"), (79, "1"), (84, "11")] {
         fields[place] = value;
     }
     one_move_each(&mut fields);
@@ -124,9 +129,9 @@ fn requests_of_rounds() {
 
 #[test]
 fn requests_of_starts() {
-    let zeros = vec!["0"; 5 + 64 + 64 * 14].join(" ");
-    let mut fields = vec!["0"; 5 + 64 + 64 * 14];
-    for (place, value) in [(0, "0"), (1, "2"), (2, "3"), (69, "11"), (78, "1"), (83, "11")] {
+    let zeros = vec!["0"; 5 + 64 + 64 * 15].join(" ");
+    let mut fields = vec!["0"; 5 + 64 + 64 * 15];
+    for (place, value) in [(0, "0"), (1, "2"), (2, "3"), (69, "11"), (78, "1"), (84, "11")] {
         fields[place] = value;
     }
     one_move_each(&mut fields);
@@ -145,7 +150,8 @@ fn requests_of_starts() {
         ("10 3 2 0 2 1 0 0 0 0", "refused 12"),
         ("10 3 2 0 2 0 0 0 0", "0"),
         ("10 3 2 0 2 2 0 0 1 0 0", "refused 6"),
-        ("10 4 0 2 1 1 0 9 9", "refused 2"),
+        ("10 5 0 2 1 1 0 9 9", "refused 2"),
+        ("10 4 0 2 1 1 0 9 9", "refused 3"),
         ("10 0 2 3 0 0 0", "0"),
     ]);
 }
@@ -154,11 +160,11 @@ fn requests_of_starts() {
 #[test]
 fn requests_of_tallies() {
     let zeros = |length: usize| vec!["0"; length].join(" ");
-    let mut fields = vec!["0"; 5 + 64 + 64 * 14];
-    for (place, value) in [(0, "2"), (1, "2"), (69, "11"), (83, "12"), (93, "1")] {
+    let mut fields = vec!["0"; 5 + 64 + 64 * 15];
+    for (place, value) in [(0, "2"), (1, "2"), (69, "11"), (84, "12"), (94, "1")] {
         fields[place] = value;
     }
-    fields[94] = "4000000000";
+    fields[95] = "4000000000";
     one_move_each(&mut fields);
     let stopped = format!("stopped 13 1 {} 1 {} 12 0 255 255", zeros(66), zeros(62));
     check_replay(&[
@@ -189,9 +195,9 @@ fn requests_of_tallies() {
 /// A ring of two whose task 1 waits at 12: what a play-back keeps, and what it doesn't.
 #[test]
 fn requests_of_play_backs() {
-    let zeros = vec!["0"; 5 + 64 + 64 * 14].join(" ");
-    let mut fields = vec!["0"; 5 + 64 + 64 * 14];
-    for (place, value) in [(0, "2"), (1, "2"), (69, "11"), (83, "12"), (93, "1"), (94, "1")] {
+    let zeros = vec!["0"; 5 + 64 + 64 * 15].join(" ");
+    let mut fields = vec!["0"; 5 + 64 + 64 * 15];
+    for (place, value) in [(0, "2"), (1, "2"), (69, "11"), (84, "12"), (94, "1"), (95, "1")] {
         fields[place] = value;
     }
     one_move_each(&mut fields);
@@ -228,12 +234,12 @@ fn requests_of_play_backs() {
 /// A ring of two whose work takes three moves and one: what is left, and where that is refused.
 #[test]
 fn requests_of_works() {
-    let zeros = vec!["0"; 5 + 64 + 64 * 14].join(" ");
-    let mut fields = vec!["0"; 5 + 64 + 64 * 14];
+    let zeros = vec!["0"; 5 + 64 + 64 * 15].join(" ");
+    let mut fields = vec!["0"; 5 + 64 + 64 * 15];
     for (place, value) in [(0, "2"), (1, "2"), (69, "11"), (79, "1"), (81, "3"), (82, "2")] {
         fields[place] = value;
     }
-    for (place, value) in [(83, "12"), (93, "1"), (95, "1"), (96, "1")] {
+    for (place, value) in [(84, "12"), (94, "1"), (96, "1"), (97, "1")] {
         fields[place] = value;
     }
     let run = format!("done 3 0 3 {} 11 1 11 1 12 1", vec!["0"; 127].join(" "));
@@ -265,6 +271,49 @@ fn requests_of_works() {
         ("11 2 2 0 0 0 2 3 1 0 11 1 0 11 1 0 12 1", "differs 2"),
         ("11 2 2 0 0 0 2 3 1 0 11 1 0 11 1 0 11 1 0 11 1", "differs 3"),
         ("11 2 2 0 0 0 2 3 0 0 11", "refused 15"),
+    ]);
+}
+
+/// Two tasks of kind 4: own senses, arrivals that fall, and where both are refused.
+#[test]
+fn requests_of_own_senses() {
+    let mut fields = vec!["0"; 5 + 64 + 64 * 15];
+    for (place, value) in [(0, "4"), (1, "2"), (69, "16"), (79, "3"), (84, "11")] {
+        fields[place] = value;
+    }
+    for place in [3, 4, 70, 80, 98] {
+        fields[place] = "1";
+    }
+    one_move_each(&mut fields);
+    let run = format!("done 4 0 3 {} 1 {}", vec!["0"; 63].join(" "), vec!["0"; 63].join(" "));
+    check_replay(&[
+        ("1 4 2 0", "0"),
+        ("4 4 8 0 0 0 0", &format!("{run} 11 1 12 1 13 1 16 0")),
+        ("5", &fields.join(" ")),
+        ("6 20 0 1", "ok"),
+        ("2 0", "1 0"),
+        ("6 20 0 2", "ok"),
+        ("3", "refused 7"),
+        ("6 20 0 256", "bad line"),
+        ("6 20 0 0", "ok"),
+        ("6 20 2 1", "ok"),
+        ("2 0", "refused 7"),
+        ("6 20 2 0", "ok"),
+        ("6 6 0 1", "ok"),
+        ("2 0", "refused 7"),
+        ("6 6 0 0", "ok"),
+        ("2 1", "1 0"),
+        ("2 1", "1 0"),
+        ("6 12 0 0", "ok"),
+        ("2 1", "refused 7"),
+        ("3", "task 0"),
+        ("6 12 0 3", "ok"),
+        ("2 0", "refused 7"),
+        ("6 12 0 1", "ok"),
+        ("2 1", "1 1"),
+        ("1 5 2 0", "refused 2"),
+        ("11 4 2 0 0 0 2 2 1 0 11 1 0 11 1 0 12 1", "agrees"),
+        ("11 5 2 0 0 0 0", "refused 2"),
     ]);
 }
 
@@ -340,7 +389,9 @@ fn bad_lines() {
         "11 0 2 3 18446744073709551615 1 0",
         "11 0 2 3 9223372036854775808 9223372036854775808 0",
         "12 0 2 3 0 0 0",
-        "6 20 0 0",
+        "6 21 0 0",
+        "6 20 64 0",
+        "6 20 0 256",
         "6 18 64 0",
         "6 19 64 0",
         "6 18 0 256",
@@ -380,6 +431,7 @@ fn bad_lines() {
         ("6 17 63 4294967295", "ok"),
         ("6 18 63 255", "ok"),
         ("6 19 63 255", "ok"),
+        ("6 20 63 255", "ok"),
     ]);
 }
 

@@ -1,7 +1,8 @@
 //! The traps that the paper sets.
 
 use super::{begin, counts, lines, play};
-use crate::machine::{run, step, Outcome, FETCH_AND_INCREMENT, RING, SYMMETRIC, TREE};
+use crate::machine::{run, step, Outcome, CENTRALIZED, FETCH_AND_INCREMENT};
+use crate::machine::{RING, SYMMETRIC, TREE};
 use crate::passes::passes;
 
 #[test]
@@ -82,4 +83,7 @@ fn fields_keep_their_last_value() {
     let mut state = begin(FETCH_AND_INCREMENT, 1, 0, &[]);
     play(&mut state, &[0; 10]);
     assert_eq!((state.tasks[0].aim, state.sense, state.tasks[0].line), (1, 1, 11));
+    let mut state = begin(CENTRALIZED, 1, 0, &[]);
+    play(&mut state, &[0; 6]);
+    assert_eq!((state.tasks[0].sense, state.sense, state.tasks[0].line), (0, 0, 12));
 }

@@ -5,7 +5,8 @@ use super::tallies::check_range;
 use super::{begin, begin_any, begin_works, least, number, play, tables_number};
 use crate::cases;
 use crate::machine::{fresh, in_range, ready, run, turn, Ending, Outcome, State, Tables};
-use crate::machine::{FETCH_AND_INCREMENT, MAX_COUNT, MAX_TALLY, RING, SYMMETRIC, TREE};
+use crate::machine::{CENTRALIZED, FETCH_AND_INCREMENT, KINDS, RING, SYMMETRIC, TREE};
+use crate::machine::{MAX_COUNT, MAX_TALLY};
 use crate::playback::{self, Verdict};
 use crate::random::Random;
 use crate::recorder::line;
@@ -15,8 +16,6 @@ use crate::schedules::{self, repeat};
 use crate::setup::Setup;
 use crate::traces;
 use crate::works::{equal, unequal, up_to};
-
-const KINDS: [u8; 4] = [SYMMETRIC, FETCH_AND_INCREMENT, RING, TREE];
 
 const MOVED: Result<Outcome, Refusal> = Ok(Outcome::Moved { closed: false });
 
@@ -60,7 +59,7 @@ fn no_table() {
 /// lines as without a table. Only the line that counts closes a round.
 #[test]
 fn every_work_length() {
-    for (kind, others) in [(SYMMETRIC, 4), (FETCH_AND_INCREMENT, 4), (RING, 4), (TREE, 6)] {
+    for (kind, others) in KINDS.into_iter().zip([4, 4, 4, 6, 4]) {
         for work in 1..=255 {
             let mut state = begin_works(kind, &[work]);
             let work = usize::from(work);
@@ -228,7 +227,10 @@ fn lengths_and_entries() {
 #[test]
 fn works_come_after_the_other_tables() {
     for (kind, n, modulus, [parents, starts, works], expected) in [
-        (4, 2, 0, [&[][..], &[], &[0]], 2),
+        (5, 2, 0, [&[][..], &[], &[0]], 2),
+        (4, 2, 0, [&[0], &[], &[0]], 5),
+        (4, 2, 0, [&[], &[0, 0], &[0]], 12),
+        (4, 2, 0, [&[], &[], &[1, 0]], 15),
         (2, 0, 0, [&[], &[], &[0]], 3),
         (2, 65, 0, [&[], &[], &[0; 65]], 3),
         (2, 2, 3, [&[], &[], &[0]], 4),
@@ -252,7 +254,7 @@ fn works_come_after_the_other_tables() {
 /// from N on.
 #[test]
 fn ranges() {
-    for (kind, last) in [(SYMMETRIC, 14), (FETCH_AND_INCREMENT, 16), (RING, 15), (TREE, 18)] {
+    for (kind, last) in KINDS.into_iter().zip([14, 16, 15, 18, 16]) {
         for work in 0..=255 {
             for left in 0..=255 {
                 let mut state = begin_works(kind, &[2, 1, 4]);
@@ -321,7 +323,7 @@ fn passes_of_a_round(state: &State) -> usize {
     let n = usize::from(state.n);
     let lines = match state.kind {
         SYMMETRIC => n * (2 * n + 3),
-        FETCH_AND_INCREMENT | RING => 5 * n,
+        FETCH_AND_INCREMENT | RING | CENTRALIZED => 5 * n,
         _ => 10 * n - 3,
     };
     let work: usize = state.tasks[..n].iter().map(|task| usize::from(task.work)).sum();
@@ -346,7 +348,7 @@ fn passes_raise_the_least_count() {
     for round in 0..300 {
         let mut state = begin_any(&mut random);
         if round % 10 == 0 {
-            state = begin_works(random.below(4) as u8, &up_to(&mut random, 255, 2));
+            state = begin_works(random.pick(&KINDS), &up_to(&mut random, 255, 2));
         }
         for _ in 0..random.length(0, 60) {
             pass(&mut random, &mut state);

@@ -39,7 +39,7 @@ inputs c =
 accepts : (c : tie.Else1) → Accepted (inputs c)
 accepts c = accepted-inputs (inputs c) (sym (c .before .reason .ensures) ∙ c .if1 .left)
 
-abbrev filled : tie.After-struct-known → tie.Else1
+abbrev filled : tie.After-fresh-tasks → tie.Else1
 filled c = c .before .before .before
 
 -- ---- the needs
@@ -52,28 +52,36 @@ padded-requires : tie.Need-padded-requires
 padded-requires c κs = parents-fit (eqb (inputs c .kind) 3) _ (inputs c .n) (inputs c .parents) (accepts c .few) refl (accepts c .parents)
 
 fresh-tasks-requires : tie.Need-fresh-tasks-requires
-fresh-tasks-requires c κs = accepts (c .before) .few
+fresh-tasks-requires c κs = accepts (c .before .before) .few
 
-cast-t11 : tie.Need-cast-t11
-cast-t11 c = omega (arith, accepts (filled c) .kind)
+cast-n : tie.Need-cast-n
+cast-n c = omega (arith, accepts (filled (c .before)) .few)
 
 cast-t12 : tie.Need-cast-t12
-cast-t12 c = omega (arith, accepts (filled (c .before)) .few)
+cast-t12 c = omega (arith, accepts (filled (c .before .before)) .kind)
 
 cast-t13 : tie.Need-cast-t13
 cast-t13 c =
-    let e = filled (c .before .before) in
+    let e = filled (c .before .before .before) in
     omega (arith, modulus-fits (eqb (inputs e .kind) 0) (inputs e .modulus) (accepts e .modulus))
 
 returns-2 : tie.Need-returns-2
 unfolding freshOf
 returns-2 c =
-    let k = c .before .before .before in
+    let k = c .before .before .before .before .before in
     let e = filled k in
-    rw (← e .before .reason .ensures, e .if1 .left, k .before .before .padded .ensures, k .before .fresh-tasks .ensures, c .fresh-sense .ensures)
+    rw (
+      ← e .before .reason .ensures,
+      e .if1 .left,
+      k .before .before .padded .ensures,
+      k .fresh-tasks .ensures,
+      k .before .fresh-own .ensures,
+      c .before .fresh-arrivals .ensures,
+      c .fresh-sense .ensures,
+    )
 
 pub fresh-spec : {M : Type 1} → statement M
 fresh-spec =
     tie.close
-    (tie.spec (λ c κs. search needs) (λ c κs. search needs) returns padded-requires fresh-tasks-requires cast-t11
-    cast-t12 cast-t13 (λ c κs. search needs) returns-2)
+    (tie.spec (λ c κs. search needs) (λ c κs. search needs) returns padded-requires (λ c κs. search needs) fresh-tasks-requires
+    cast-n cast-t12 cast-t13 (λ c κs. search needs) (λ c κs. search needs) returns-2)

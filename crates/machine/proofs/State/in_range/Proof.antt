@@ -13,11 +13,13 @@ unfolding stateOk
 returns c =
     let m = c .before .before .before .before in
     let n = m .before .before in
-    let start = n .before .before .before in
+    let shares = n .before .before in
+    let start = shares .before .before in
     let s = start .args .self in
     rw (
       n .before .is-kind .ensures,
       n .is-count .ensures,
+      ← shares .has-sense .ensures,
       m .modulus-ok .ensures,
       c .before .before .before .field-ok .ensures,
       c .before .before .field-ok2 .ensures,
@@ -31,6 +33,6 @@ returns c =
 pub in-range-spec : {M : Type 1} → statement M
 in-range-spec =
     tie.close
-    (tie.spec (λ c. search needs) (λ c. search needs) (λ c κs. search needs) (λ c κs. search needs) (λ c. search needs)
+    (tie.spec (λ c. search needs) (λ c. search needs) (λ c κs. search needs) (λ c. search needs) (λ c κs. search needs) (λ c κs. search needs) (λ c. search needs)
     (λ c. search needs) (λ c κs. search needs) (λ c. search needs) (λ c κs. search needs) (λ c κs. search needs)
     (λ c κs. search needs) (λ c κs. search needs) returns)

@@ -7,7 +7,7 @@ use Rattle.machine.proofs.State.task_ok.Tie as tie
 returns : tie.Need-returns
 unfolding taskOk
 returns c =
-    let f7 = c .before .before in
+    let f7 = c .before .before .before in
     let w = f7 .before .before .before .before in
     let l = w .before in
     let f = l .before .before .before in
@@ -22,6 +22,7 @@ returns c =
       f7 .before .before .field-ok5 .ensures,
       f7 .before .field-ok6 .ensures,
       f7 .field-ok7 .ensures,
+      c .field-ok8 .ensures,
     )
 
 pub task-ok-spec : {M : Type 1} → statement M
@@ -29,4 +30,4 @@ task-ok-spec =
     tie.close
     (tie.spec (λ c. search needs) (λ c. search needs) (λ c κs. search needs) (λ c κs. search needs)
     (λ c κs. search needs) (λ c κs. search needs) (λ c κs. search needs) (λ c κs. search needs) (λ c κs. search needs)
-    (λ c κs. search needs) (λ c κs. search needs) (λ c κs. search needs) returns)
+    (λ c κs. search needs) (λ c κs. search needs) (λ c κs. search needs) (λ c κs. search needs) returns)

@@ -13,23 +13,23 @@ use Rattle.machine.proofs.Arrays.{store-next}
 use Rattle.machine.proofs.initial.fresh_tasks.Statement.{statement}
 use Rattle.machine.proofs.initial.fresh_tasks.Tie as tie
 
-abbrev fresh : List ℕ → List ℕ → ℕ → Task
-fresh starts works q = taskWith (startOf starts q) (workOf works q)
+abbrev fresh : List ℕ → List ℕ → ℕ → ℕ → Task
+fresh starts works own q = taskWith (startOf starts q) (workOf works q) own
 
 abbrev Inv-loop : tie.InvT-loop
-Inv-loop n starts works all₀ q₀ all q = (q ≤ n) × (all ≡ freshTasks q (fresh starts works))
+Inv-loop n starts works own all₀ q₀ all q = (q ≤ n) × (all ≡ freshTasks q (fresh starts works own))
 
 abbrev μ-loop : tie.MeasureT-loop
-μ-loop n starts works all₀ q₀ all q = n - q
+μ-loop n starts works own all₀ q₀ all q = n - q
 
 loop-holds : tie.Need-loop-holds Inv-loop μ-loop
-loop-holds c = (search needs, let a = c .before .before .before .args in rw (table-none (fresh (a .starts .now) (a .works .now))) (c .zero-tasks .ensures))
+loop-holds c = (search needs, let a = c .before .before .before .args in rw (table-none (fresh (a .starts .now) (a .works .now) (a .own))) (c .zero-tasks .ensures))
 
 loop-again : tie.Need-loop-again Inv-loop μ-loop
 loop-again c =
     let l = c .before .before .before .before in
     let a = l .before .before .before .before .args in
-    let at = fresh (a .starts .now) (a .works .now) in
+    let at = fresh (a .starts .now) (a .works .now) (a .own) in
     let q = l .loop .q in (
       search needs,
       rw (table-more q at, c .fresh-task .ensures, c .before .work-of .ensures, c .before .before .start-of .ensures, l .loop .inv .1) (store-next (table q at) 64 q (at q) zeroTask (length-table q at) (omega arith)),

@@ -1,7 +1,7 @@
--- `lines::increment::negated` meets its contract, by its test.
+-- `lines::common::negated` meets its contract, by its test.
 use borrow.Author.Tests.{eq-eqb, ne-eqb}
-use Rattle.lines.proofs.increment.negated.Statement.{statement}
-use Rattle.lines.proofs.increment.negated.Tie as tie
+use Rattle.lines.proofs.common.negated.Statement.{statement}
+use Rattle.lines.proofs.common.negated.Tie as tie
 
 returns : tie.Need-returns
 returns c = rw (eq-eqb _ _ (c .if1 .taken))

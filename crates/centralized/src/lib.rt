@@ -1,0 +1,1 @@
+// The laws of the barrier that counts down: specs only.

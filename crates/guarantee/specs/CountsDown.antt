@@ -1,0 +1,130 @@
+-- 02's P7: kinds 1 and 4 show the same under every list of turns and runs. The words stand in Answers.antt, and what demand 3 and ready's promise need
+-- of it beside them.
+use mathlib.Core.Path.{_≡_, refl, sym, ap, _∙_, subst}
+use mathlib.Core.List.{List, [], _∷_, _++_}
+use mathlib.Core.Logic.{_≢_}
+use Prim.Native.Nat.{ℕ, zero, suc, _+_, _-_, _<_}
+use native.Mathlib.Decide.{ℕ-discrete}
+use native.Mathlib.Omega.{arith}
+use lib.ListN.{length, take}
+use borrow.Author.Tests.{eq-eqb, ne-eqb}
+use Rattle.machine.specs.declared.State.{State}
+use Rattle.machine.specs.declared.Outcome.{Outcome}
+use Rattle.machine.specs.Setters.{taskAt}
+use Rattle.machine.specs.Fresh.{Inputs, freshReason, freshOf}
+use Rattle.machine.specs.FreshLaws.{fresh-accepted}
+use Rattle.machine.specs.Turn.{turnOf, isMoved}
+use Rattle.machine.specs.Ready.{readyFrom, readyOf}
+use Rattle.machine.specs.ReadyLaws.{ready-is}
+use Rattle.barrier.specs.Sum.{sum-same}
+use Rattle.runner.specs.Trace.{traceOf}
+use Rattle.runner.specs.Run.{runReason, runOf, logAfter}
+use Rattle.runner.specs.RunLaws.{run-accepts, run-refuses}
+use Rattle.centralized.specs.Coupling.{Pair}
+use Rattle.centralized.specs.Fresh.{fresh-pair}
+use Rattle.centralized.specs.Turns.{same-line, same-count, same-work, turns}
+use Rattle.centralized.specs.Runs.{Traced, traces, same-reason}
+use Rattle.guarantee.specs.Calls.{Call, turn, run, after, afterAll, countedTurn, countedRun, counted, countedAll, M₁, W, M}
+use Rattle.guarantee.specs.Answers.{Answer, turned, answer, answers, Alike}
+
+-- ---- a call of coupled states
+
+pub record Same (s₁ s₄ : State) (c : Call) : Type 0 where
+  pub answered : answer s₁ c ≡ answer s₄ c
+  pub counting : counted s₁ c ≡ counted s₄ c
+  pub pair : Pair (after s₁ c) (after s₄ c)
+
+run-same : {s₁ s₄ : State} → Pair s₁ s₄ → (schedule : List ℕ) (allowance : ℕ) (log : List ℕ) → Same s₁ s₄ (run schedule allowance log)
+unfolding logAfter
+run-same {s₁} {s₄} pair schedule allowance log = go (ℕ-discrete (runReason s₄ schedule allowance (length log)) 0)
+  where
+    same : runReason s₁ schedule allowance (length log) ≡ runReason s₄ schedule allowance (length log)
+    same = same-reason pair schedule allowance (length log)
+
+    t : Traced (traceOf s₁ (take allowance schedule)) (traceOf s₄ (take allowance schedule))
+    t = traces pair (take allowance schedule)
+
+    led : Pair (runOf s₁ schedule allowance log .state) (runOf s₄ schedule allowance log .state) → Pair (after s₁ (run schedule allowance log)) (after s₄ (run schedule allowance log))
+    led p = p
+
+    go : Dec (runReason s₄ schedule allowance (length log) ≡ 0) → Same s₁ s₄ (run schedule allowance log)
+    go (yes e) =
+        record {
+          answered = rw (run-accepts s₁ schedule allowance log (same ∙ e), run-accepts s₄ schedule allowance log e, same, t .made, t .stop);
+          counting = rw (same, t .made, t .stop);
+          pair = led (rw (run-accepts s₁ schedule allowance log (same ∙ e), run-accepts s₄ schedule allowance log e) (t .pair));
+        }
+    go (no ne) =
+        record {
+          answered = rw (run-refuses s₁ schedule allowance log (λ z. ne (sym same ∙ z)), run-refuses s₄ schedule allowance log ne, same, pair .coupled .n, ne-eqb _ 0 ne);
+          counting = rw (same, ne-eqb _ 0 ne);
+          pair = led (rw (run-refuses s₁ schedule allowance log (λ z. ne (sym same ∙ z)), run-refuses s₄ schedule allowance log ne) pair);
+        }
+
+pub call-same : {s₁ s₄ : State} → Pair s₁ s₄ → (c : Call) → Same s₁ s₄ c
+call-same pair (turn p) =
+    let next = turns pair p in
+    record { answered = ap turned (next .0); counting = ap (countedTurn p) (next .0); pair = next .1 }
+call-same pair (run schedule allowance log) = run-same pair schedule allowance log
+
+-- ---- all calls
+
+pub calls-pair : {s₁ s₄ : State} → Pair s₁ s₄ → (cs : List Call) → Pair (afterAll s₁ cs) (afterAll s₄ cs)
+unfolding afterAll
+calls-pair pair [] = pair
+calls-pair pair (c ∷ cs) = calls-pair (call-same pair c .pair) cs
+
+calls-answer : {s₁ s₄ : State} → Pair s₁ s₄ → (cs : List Call) → answers s₁ cs ≡ answers s₄ cs
+unfolding answers
+calls-answer pair [] = refl
+calls-answer pair (c ∷ cs) = let s = call-same pair c in rw (s .answered, calls-answer (s .pair) cs)
+
+pub calls-counted : {s₁ s₄ : State} → Pair s₁ s₄ → (cs : List Call) → countedAll s₁ cs ≡ countedAll s₄ cs
+unfolding countedAll
+calls-counted pair [] = refl
+calls-counted pair (c ∷ cs) = let s = call-same pair c in rw (s .counting, calls-counted (s .pair) cs)
+
+-- ---- what coupled states share
+
+pub pair-alike : {s₁ s₄ : State} → Pair s₁ s₄ → Alike s₁ s₄
+pair-alike pair =
+    let c = pair .coupled in
+    record {
+      lines = same-line c;
+      counts = same-count c;
+      moves = c .moves;
+      waits = c .waits;
+      n = c .n;
+      arrivals = c .arrivals;
+      senses = c .sense;
+      aims = λ q h. c .tasks q h .aim;
+    }
+
+-- "M is as for kind 1."
+pub same-M : {s₁ s₄ : State} → Pair s₁ s₄ → M s₁ ≡ M s₄
+same-M {s₁} {s₄} pair = omega (arith, one, work)
+  where
+    one : M₁ s₁ ≡ M₁ s₄
+    one = rw (pair .first .kind, pair .kind, pair .coupled .n)
+
+    work : W s₁ ≡ W s₄
+    work = rw (pair .coupled .n, sum-same (s₄ .n) (λ q. taskAt s₁ q .work) (λ q. taskAt s₄ q .work) (λ q h. same-work (pair .coupled) q h .0))
+
+ready-from : {s₁ s₄ : State} → Pair s₁ s₄ → (k p : ℕ) → readyFrom s₁ k p ≡ readyFrom s₄ k p
+unfolding readyFrom
+ready-from pair zero p = refl
+ready-from pair (suc k) p = rw (turns pair p .0, ready-from pair k (p + 1))
+
+-- ready answers alike
+pub same-ready : {s₁ s₄ : State} → Pair s₁ s₄ → readyOf s₁ .ready ≡ readyOf s₄ .ready
+same-ready {s₁} {s₄} pair =
+    ready-is s₁ (pair .first .valid) ∙ ready-from pair (s₁ .n) 0 ∙ ap (λ (n : ℕ). readyFrom s₄ n 0) (pair .coupled .n) ∙ sym (ready-is s₄ (pair .valid))
+
+-- ---- the claim
+
+pub counts-down : (i₁ i₄ : Inputs) → freshReason i₁ ≡ 0 → freshReason i₄ ≡ 0 → i₁ .kind ≡ 1 → i₄ .kind ≡ 4 → i₁ .n ≡ i₄ .n → i₁ .works ≡ i₄ .works
+    → (cs : List Call)
+    → (answers (freshOf i₁ .state) cs ≡ answers (freshOf i₄ .state) cs) × Alike (afterAll (freshOf i₁ .state) cs) (afterAll (freshOf i₄ .state) cs)
+counts-down i₁ i₄ e₁ e₄ k₁ k₄ n works cs =
+    let pair = fresh-pair i₁ i₄ e₁ e₄ k₁ k₄ n works in
+    rw (fresh-accepted i₁ e₁, fresh-accepted i₄ e₄) (calls-answer pair cs, pair-alike (calls-pair pair cs))
