@@ -2,11 +2,9 @@
 use mathlib.Core.Path.{_≡_, refl}
 use mathlib.Core.List.{List, [], _∷_}
 use mathlib.Core.Logic.{_≢_}
-use Prim.Native.Nat.{ℕ, _+_, _<_}
+use Prim.Native.Nat.{ℕ, _+_}
 use native.Mathlib.Omega.{arith}
-use lib.ListN.{length}
 use borrow.Author.Tests.{eqb-true}
-use Rattle.machine.specs.Setters.{taskAt}
 use Rattle.machine.specs.Fresh.{Inputs, startsReason, freshArrivals, freshReason, freshTask, freshState}
 use Rattle.machine.specs.FreshLaws.{accepted-inputs, starts-given, fresh-at, fresh-valid}
 use Rattle.barrier.specs.Moves.{fresh-left}

@@ -2,9 +2,9 @@
 use mathlib.Core.Path.{_≡_, refl, sym, ap, subst}
 use mathlib.Core.Bool.{Bool, true, false}
 use mathlib.Core.Logic.{_≢_}
-use Prim.Native.Nat.{ℕ, _+_, _-_, _≤_, _<_}
+use Prim.Native.Nat.{ℕ, _+_, _-_, _<_}
 use native.Mathlib.Omega.{arith}
-use lib.Dec.{eqb, leb, ltb}
+use lib.Dec.{eqb, ltb}
 use borrow.Author.Tests.{eq-eqb, ne-eqb, le-leb, lt-leb, eqb-true, eqb-false}
 use Rattle.bitset.specs.Choice.{pick}
 use Rattle.lines.specs.declared.Task.{Task}
@@ -12,7 +12,7 @@ use Rattle.lines.specs.declared.Effect.{Effect}
 use Rattle.lines.specs.declared.Write.{Write}
 use Rattle.lines.specs.declared.Write.the-variants.{Nothing, Arrivals, Sense}
 use Rattle.lines.specs.Setters.{withLine, withAim, withOwn}
-use Rattle.lines.specs.Common.{maxCount, negated, moves, waits, refuses, awaits, raised, counts, work}
+use Rattle.lines.specs.Common.{maxCount, negated, moves, waits, refuses, awaits, raised, work}
 use Rattle.lines.specs.Increment.{increment13, increment16, incrementLine}
 use Rattle.lines.specs.Centralized.{centralized13, centralized16, centralizedLine}
 use Rattle.lines.specs.Words.{senseAfter}

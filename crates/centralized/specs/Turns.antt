@@ -2,16 +2,14 @@
 use mathlib.Core.Path.{_≡_, refl, sym, ap, _∙_, subst}
 use mathlib.Core.List.{List}
 use mathlib.Core.Logic.{_≢_}
-use Prim.Native.Nat.{ℕ, _+_, _≤_, _<_}
+use Prim.Native.Nat.{ℕ, _≤_, _<_}
 use native.Mathlib.Decide.{decLt}
 use native.Mathlib.Omega.{arith}
 use Rattle.lines.specs.declared.Task.{Task}
 use Rattle.lines.specs.declared.Effect.{Effect}
 use Rattle.lines.specs.declared.Write.{Write}
-use Rattle.lines.specs.declared.Write.the-variants.{Nothing, Arrivals, Sense}
 use Rattle.lines.specs.Setters.{withAim, withOwn}
 use Rattle.lines.specs.Increment.{incrementLine}
-use Rattle.lines.specs.Centralized.{centralizedLine}
 use Rattle.lines.specs.Words.{senseAfter}
 use Rattle.machine.specs.declared.State.{State}
 use Rattle.machine.specs.declared.Turned.{Turned}
@@ -24,10 +22,9 @@ use Rattle.machine.specs.Least.{least}
 use Rattle.machine.specs.LeastLaws.{least-same}
 use Rattle.machine.specs.Turn.{effectOf, movedTo, answerOf, applied, turnOf}
 use Rattle.machine.specs.TurnLaws.{turn-unknown, turn-answer, turn-applied, turn-constants, moved-n, effect-1, effect-4}
-use Rattle.machine.specs.RangeLaws.{range}
 use Rattle.machine.specs.KeepLaws.{turn-valid}
 use Rattle.barrier.specs.Moves.{keeps-all}
-use Rattle.barrier.specs.Puts.{Puts, at-task, stored}
+use Rattle.barrier.specs.Puts.{at-task, stored}
 use Rattle.increment.specs.Increment.{increment}
 use Rattle.increment.specs.Phases.{at-butler}
 use Rattle.centralized.specs.Coupling.{Outside, Matching, Coupled, Pair}
@@ -87,36 +84,9 @@ module _ {s₁ s₄ : State} (pair : Pair s₁ s₄) (p : ℕ) (h : p < s₄ .n)
 
     moved : {w₁ w₄ : Write} → Wrote (s₄ .n) (taskAt s₄ p .line) w₁ w₄ → Outside (senseAfter w₄ (s₄ .sense)) t₄
         → Coupled (movedTo s₁ p t₁ w₁) (movedTo s₄ p t₄ w₄)
-    moved nothing own =
-        record {
-          n = c .n;
-          arrivals = c .arrivals;
-          sense = c .sense;
-          moves = c .moves;
-          waits = c .waits;
-          tasks = tasks-after;
-          outside = outside-after (s₄ .sense) own (λ q k ne low. refl);
-        }
-    moved (arrived e) own =
-        record {
-          n = c .n;
-          arrivals = e;
-          sense = c .sense;
-          moves = c .moves;
-          waits = c .waits;
-          tasks = tasks-after;
-          outside = outside-after (s₄ .sense) own (λ q k ne low. refl);
-        }
-    moved (turned {x} {y} l e) own =
-        record {
-          n = c .n;
-          arrivals = c .arrivals;
-          sense = e;
-          moves = c .moves;
-          waits = c .waits;
-          tasks = tasks-after;
-          outside = outside-after y own (λ q k ne low. absurd (others l q k ne low));
-        }
+    moved nothing own = let k = c in let t = tasks-after in let o = outside-after (s₄ .sense) own (λ q k ne low. refl) in search
+    moved (arrived e) own = let k = c in let t = tasks-after in let o = outside-after (s₄ .sense) own (λ q k ne low. refl) in search
+    moved (turned {x} {y} l e) own = let k = c in let t = tasks-after in let o = outside-after y own (λ q k ne low. absurd (others l q k ne low)) in search
 
   -- ---- the turn
 
@@ -148,27 +118,8 @@ module _ {s₁ s₄ : State} (pair : Pair s₁ s₄) (p : ℕ) (h : p < s₄ .n)
       same = rw (alike .act, same-least c some, same-least after-move (rw (moved-n s₄ p (e₄ .task) (e₄ .write)) some), c .moves, c .waits)
 
   after : (o : Outcome) → Coupled (applied o s₁ p (e₁ .task) (e₁ .write)) (applied o s₄ p (e₄ .task) (e₄ .write))
-  after (Made (Moved closed)) =
-      let a = after-move in
-      record {
-        n = a .n;
-        arrivals = a .arrivals;
-        sense = a .sense;
-        moves = ap (λ (l : List ℕ). tallied l p 1) (a .moves);
-        waits = a .waits;
-        tasks = a .tasks;
-        outside = a .outside;
-      }
-  after (Made Waited) =
-      record {
-        n = c .n;
-        arrivals = c .arrivals;
-        sense = c .sense;
-        moves = c .moves;
-        waits = ap (λ (l : List ℕ). tallied l p 1) (c .waits);
-        tasks = c .tasks;
-        outside = c .outside;
-      }
+  after (Made (Moved closed)) = let a = after-move in let m = ap (λ (l : List ℕ). tallied l p 1) (a .moves) in search
+  after (Made Waited) = let a = c in let w = ap (λ (l : List ℕ). tallied l p 1) (a .waits) in search
   after (Refused k) = c
 
   coupled-after : Coupled (turnOf s₁ p .state) (turnOf s₄ p .state)

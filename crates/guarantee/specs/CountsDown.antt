@@ -1,19 +1,16 @@
 -- 02's P7: kinds 1 and 4 show the same under every list of turns and runs. The words stand in Answers.antt, and what demand 3 and ready's promise need
 -- of it beside them.
-use mathlib.Core.Path.{_≡_, refl, sym, ap, _∙_, subst}
-use mathlib.Core.List.{List, [], _∷_, _++_}
-use mathlib.Core.Logic.{_≢_}
-use Prim.Native.Nat.{ℕ, zero, suc, _+_, _-_, _<_}
+use mathlib.Core.Path.{_≡_, refl, sym, ap, _∙_}
+use mathlib.Core.List.{List, [], _∷_}
+use Prim.Native.Nat.{ℕ, zero, suc, _+_}
 use native.Mathlib.Decide.{ℕ-discrete}
 use native.Mathlib.Omega.{arith}
 use lib.ListN.{length, take}
-use borrow.Author.Tests.{eq-eqb, ne-eqb}
+use borrow.Author.Tests.{ne-eqb}
 use Rattle.machine.specs.declared.State.{State}
-use Rattle.machine.specs.declared.Outcome.{Outcome}
 use Rattle.machine.specs.Setters.{taskAt}
 use Rattle.machine.specs.Fresh.{Inputs, freshReason, freshOf}
 use Rattle.machine.specs.FreshLaws.{fresh-accepted}
-use Rattle.machine.specs.Turn.{turnOf, isMoved}
 use Rattle.machine.specs.Ready.{readyFrom, readyOf}
 use Rattle.machine.specs.ReadyLaws.{ready-is}
 use Rattle.barrier.specs.Sum.{sum-same}
@@ -24,8 +21,8 @@ use Rattle.centralized.specs.Coupling.{Pair}
 use Rattle.centralized.specs.Fresh.{fresh-pair}
 use Rattle.centralized.specs.Turns.{same-line, same-count, same-work, turns}
 use Rattle.centralized.specs.Runs.{Traced, traces, same-reason}
-use Rattle.guarantee.specs.Calls.{Call, turn, run, after, afterAll, countedTurn, countedRun, counted, countedAll, M₁, W, M}
-use Rattle.guarantee.specs.Answers.{Answer, turned, answer, answers, Alike}
+use Rattle.guarantee.specs.Calls.{Call, turn, run, after, afterAll, countedTurn, counted, countedAll, M₁, W, M}
+use Rattle.guarantee.specs.Answers.{turned, answer, answers, Alike}
 
 -- ---- a call of coupled states
 
@@ -44,22 +41,21 @@ run-same {s₁} {s₄} pair schedule allowance log = go (ℕ-discrete (runReason
     t : Traced (traceOf s₁ (take allowance schedule)) (traceOf s₄ (take allowance schedule))
     t = traces pair (take allowance schedule)
 
-    led : Pair (runOf s₁ schedule allowance log .state) (runOf s₄ schedule allowance log .state) → Pair (after s₁ (run schedule allowance log)) (after s₄ (run schedule allowance log))
-    led p = p
+    -- the states that the runs return
+    Paired : Type 0
+    Paired = Pair (runOf s₁ schedule allowance log .state) (runOf s₄ schedule allowance log .state)
 
     go : Dec (runReason s₄ schedule allowance (length log) ≡ 0) → Same s₁ s₄ (run schedule allowance log)
     go (yes e) =
-        record {
-          answered = rw (run-accepts s₁ schedule allowance log (same ∙ e), run-accepts s₄ schedule allowance log e, same, t .made, t .stop);
-          counting = rw (same, t .made, t .stop);
-          pair = led (rw (run-accepts s₁ schedule allowance log (same ∙ e), run-accepts s₄ schedule allowance log e) (t .pair));
-        }
+        let r₁ = run-accepts s₁ schedule allowance log (same ∙ e) in
+        let r₄ = run-accepts s₄ schedule allowance log e in
+        let after : Paired = rw (r₁, r₄) (t .pair) in
+        record { answered = rw (r₁, r₄, same, t .made, t .stop); counting = rw (same, t .made, t .stop); pair = after }
     go (no ne) =
-        record {
-          answered = rw (run-refuses s₁ schedule allowance log (λ z. ne (sym same ∙ z)), run-refuses s₄ schedule allowance log ne, same, pair .coupled .n, ne-eqb _ 0 ne);
-          counting = rw (same, ne-eqb _ 0 ne);
-          pair = led (rw (run-refuses s₁ schedule allowance log (λ z. ne (sym same ∙ z)), run-refuses s₄ schedule allowance log ne) pair);
-        }
+        let r₁ = run-refuses s₁ schedule allowance log (λ z. ne (sym same ∙ z)) in
+        let r₄ = run-refuses s₄ schedule allowance log ne in
+        let after : Paired = rw (r₁, r₄) pair in
+        record { answered = rw (r₁, r₄, same, pair .coupled .n, ne-eqb _ 0 ne); counting = rw (same, ne-eqb _ 0 ne); pair = after }
 
 pub call-same : {s₁ s₄ : State} → Pair s₁ s₄ → (c : Call) → Same s₁ s₄ c
 call-same pair (turn p) =

@@ -1,5 +1,5 @@
 -- Demand 3: one theorem for every list of turns and runs from any reached state. Its words stand in Calls.antt.
-use mathlib.Core.Path.{_≡_, sym, _∙_, subst}
+use mathlib.Core.Path.{sym, _∙_, subst}
 use mathlib.Core.List.{List}
 use Prim.Native.Nat.{ℕ, _*_, _<_}
 use native.Mathlib.Omega.{arith}

@@ -9,7 +9,7 @@ use native.Mathlib.Omega.{arith}
 use Rattle.machine.specs.declared.State.{State}
 use Rattle.machine.specs.declared.Outcome.{Outcome}
 use Rattle.machine.specs.Setters.{taskAt}
-use Rattle.machine.specs.Fresh.{Inputs, freshReason, freshState, freshOf}
+use Rattle.machine.specs.Fresh.{Inputs, freshReason, freshState}
 use Rattle.machine.specs.FreshLaws.{accepted-inputs, fresh-accepted, fresh-valid}
 use Rattle.machine.specs.Range.{Valid}
 use Rattle.machine.specs.Turn.{turnOf, reasonNumber}
@@ -56,7 +56,7 @@ known-fresh i e low =
 pub known-after : (s : State) (cs : List Call) → Known s → Known (afterAll s cs)
 known-after s cs k = known-led s (afterAll s cs) (countedAll s cs) (leads-all s cs) k
 
--- a state that is coupled with one of kind 4
+-- the state of kind 1 in a coupled pair
 pub known-first : {s₁ s₄ : State} → Pair s₁ s₄ → Known s₁
 unfolding barrierOf
 known-first pair = record { kind = 1; low = omega arith; inv = pair .first }
