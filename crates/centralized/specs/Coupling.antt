@@ -22,6 +22,7 @@ pub record Matching (t₁ t₄ : Task) : Type 0 where
   pub same : t₁ ≡ withOwn (withAim t₄ (t₁ .aim)) (t₁ .own)
   pub aim : Aimed (t₁ .aim) t₄
 
+-- a state of kind 1 and one of kind 4 that show the same
 pub record Coupled (s₁ s₄ : State) : Type 0 where
   pub n : s₁ .n ≡ s₄ .n
   -- "the arrivals of one are N minus the other's"

@@ -9,10 +9,12 @@ use borrow.Author.Tests.{eq-eqb, ne-eqb, le-leb, lt-leb, eqb-true, eqb-false}
 use Rattle.bitset.specs.Choice.{pick}
 use Rattle.lines.specs.declared.Task.{Task}
 use Rattle.lines.specs.declared.Effect.{Effect}
+use Rattle.lines.specs.declared.Act.{Act}
+use Rattle.lines.specs.declared.Act.the-variants.{Waits, Refuses}
 use Rattle.lines.specs.declared.Write.{Write}
 use Rattle.lines.specs.declared.Write.the-variants.{Nothing, Arrivals, Sense}
 use Rattle.lines.specs.Setters.{withLine, withAim, withOwn}
-use Rattle.lines.specs.Common.{maxCount, negated, moves, waits, refuses, awaits, raised, work}
+use Rattle.lines.specs.Common.{maxCount, negated, moves, awaits, raised, work}
 use Rattle.lines.specs.Increment.{increment13, increment16, incrementLine}
 use Rattle.lines.specs.Centralized.{centralized13, centralized16, centralizedLine}
 use Rattle.lines.specs.Words.{senseAfter}
@@ -44,11 +46,9 @@ module _ (n sense : ℕ) (t : Task) (aim own : ℕ) (equal : Aimed aim t) (outsi
   abbrev A : Effect → Effect → Type 0
   A e₁ e₄ = Alike n (t .line) sense e₁ e₄
 
-  waiting : A (waits u) (waits t)
-  waiting = record { act = refl; task = record { same = refl; aim = equal }; write = nothing; outside = outside }
-
-  refusing : (k : ℕ) → A (refuses k u) (refuses k t)
-  refusing k = record { act = refl; task = record { same = refl; aim = equal }; write = nothing; outside = outside }
+  -- a wait, or a refusal
+  staying : (a : Act) → A (record { act = a; task = u; write = Nothing }) (record { act = a; task = t; write = Nothing })
+  staying a = record { act = refl; task = record { same = refl; aim = equal }; write = nothing; outside = outside }
 
   working : t .line ≡ 11 → A (work u) (work t)
   working l =
@@ -92,17 +92,17 @@ module _ (n sense : ℕ) (t : Task) (aim own : ℕ) (equal : Aimed aim t) (outsi
           }
 
       go : (b : Bool) → eqb a₄ 0 ≡ b → A (increment13 n a₁ u) (centralized13 a₄ t)
-      go true e = rw (e, le-leb n a₁ (omega (arith, eqb-true a₄ 0 e))) (refusing 7)
+      go true e = rw (e, le-leb n a₁ (omega (arith, eqb-true a₄ 0 e))) (staying (Refuses 7))
       go false e =
           let some = eqb-false a₄ 0 e in
           rw (e, lt-leb n a₁ (omega arith), last some (eqb a₄ 1) refl)
-          (both A (ltb (t .count) maxCount) (λ _. raise (pick (eqb a₄ 1) 14 16) some (onward (eqb a₄ 1))) (λ _. refusing 11))
+          (both A (ltb (t .count) maxCount) (λ _. raise (pick (eqb a₄ 1) 14 16) some (onward (eqb a₄ 1))) (λ _. staying (Refuses 11)))
 
   at-16 : t .line ≡ 16 → A (increment16 sense u) (centralized16 sense t)
   at-16 l =
       let e = equal (omega arith) (omega arith) in
       subst (λ (b : Bool). A (awaits b u (moves (withLine u 11) Nothing)) (centralized16 sense t)) (ap (eqb sense) (sym e))
-      (both A (eqb sense (t .own)) (λ same. moving 11 e nothing (λ _. sym (eqb-true sense (t .own) same))) (λ _. waiting))
+      (both A (eqb sense (t .own)) (λ same. moving 11 e nothing (λ _. sym (eqb-true sense (t .own) same))) (λ _. staying Waits))
 
   pub lines : (a₁ a₄ : ℕ) → a₁ + a₄ ≡ n → A (incrementLine (t .line) n a₁ sense u) (centralizedLine (t .line) n a₄ sense t)
   unfolding incrementLine centralizedLine
@@ -112,7 +112,7 @@ module _ (n sense : ℕ) (t : Task) (aim own : ℕ) (equal : Aimed aim t) (outsi
       (at 13 (at-13 a₁ a₄ sum)
       (at 14 (λ l. moving 15 (equal (omega arith) (omega arith)) (arrived {x = 0} {y = n} (omega arith)) (λ h. absurd (omega arith)))
       (at 15 (λ l. let e = equal (omega arith) (omega arith) in moving 11 e (turned l e) (λ _. refl))
-      (at 16 at-16 waiting)))))
+      (at 16 at-16 (staying Waits))))))
     where
       at : (l : ℕ) {x y u v : Effect} → (t .line ≡ l → A x u) → A y v → A (pick (eqb (t .line) l) x y) (pick (eqb (t .line) l) u v)
       at l h rest = both A (eqb (t .line) l) (λ e. h (eqb-true (t .line) l e)) (λ _. rest)

@@ -32,25 +32,25 @@ use Rattle.centralized.specs.Lines.{Wrote, nothing, arrived, turned, Ali
 
 -- ---- what coupled states have in common
 
--- a field that is neither aim nor own sense
-pub match-field : {A : Type 0} (f : Task → A) → ((t : Task) (x y : ℕ) → f (withOwn (withAim t x) y) ≡ f t) → (t₁ t₄ : Task) → Matching t₁ t₄ → f t₁ ≡ f t₄
-match-field f apart t₁ t₄ m = ap f (m .same) ∙ apart t₄ (t₁ .aim) (t₁ .own)
-
 module _ {s₁ s₄ : State} (c : Coupled s₁ s₄) where
+  -- a field that is neither aim nor own sense
+  same-field : (f : Task → ℕ) → ((t : Task) (x y : ℕ) → f (withOwn (withAim t x) y) ≡ f t) → (q : ℕ) → q < s₄ .n → f (taskAt s₁ q) ≡ f (taskAt s₄ q)
+  same-field f apart q h = ap f (c .tasks q h .same) ∙ apart (taskAt s₄ q) (taskAt s₁ q .aim) (taskAt s₁ q .own)
+
   pub same-line : (q : ℕ) → q < s₄ .n → taskAt s₁ q .line ≡ taskAt s₄ q .line
-  same-line q h = match-field (λ t. t .line) (λ t x y. refl) (taskAt s₁ q) (taskAt s₄ q) (c .tasks q h)
+  same-line = same-field (λ t. t .line) (λ t x y. refl)
 
   pub same-count : (q : ℕ) → q < s₄ .n → taskAt s₁ q .count ≡ taskAt s₄ q .count
-  same-count q h = match-field (λ t. t .count) (λ t x y. refl) (taskAt s₁ q) (taskAt s₄ q) (c .tasks q h)
+  same-count = same-field (λ t. t .count) (λ t x y. refl)
 
-  pub same-work : (q : ℕ) → q < s₄ .n → (taskAt s₁ q .work ≡ taskAt s₄ q .work) × (taskAt s₁ q .left ≡ taskAt s₄ q .left)
-  same-work q h = (
-    match-field (λ t. t .work) (λ t x y. refl) (taskAt s₁ q) (taskAt s₄ q) (c .tasks q h),
-    match-field (λ t. t .left) (λ t x y. refl) (taskAt s₁ q) (taskAt s₄ q) (c .tasks q h),
-  )
+  pub same-work : (q : ℕ) → q < s₄ .n → taskAt s₁ q .work ≡ taskAt s₄ q .work
+  same-work = same-field (λ t. t .work) (λ t x y. refl)
+
+  pub same-left : (q : ℕ) → q < s₄ .n → taskAt s₁ q .left ≡ taskAt s₄ q .left
+  same-left = same-field (λ t. t .left) (λ t x y. refl)
 
   pub same-least : 0 < s₄ .n → least s₁ ≡ least s₄
-  same-least some = least-same s₁ s₄ (c .n) some (λ q h. same-count q h)
+  same-least some = least-same s₁ s₄ (c .n) some same-count
 
 -- ---- what a move writes
 

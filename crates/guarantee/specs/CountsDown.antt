@@ -65,24 +65,22 @@ call-same pair (run schedule allowance log) = run-same pair schedule allowance l
 
 -- ---- all calls
 
-pub calls-pair : {s₁ s₄ : State} → Pair s₁ s₄ → (cs : List Call) → Pair (afterAll s₁ cs) (afterAll s₄ cs)
-unfolding afterAll
-calls-pair pair [] = pair
-calls-pair pair (c ∷ cs) = calls-pair (call-same pair c .pair) cs
+pub record SameAll (s₁ s₄ : State) (cs : List Call) : Type 0 where
+  pub answered : answers s₁ cs ≡ answers s₄ cs
+  pub counting : countedAll s₁ cs ≡ countedAll s₄ cs
+  pub pair : Pair (afterAll s₁ cs) (afterAll s₄ cs)
 
-calls-answer : {s₁ s₄ : State} → Pair s₁ s₄ → (cs : List Call) → answers s₁ cs ≡ answers s₄ cs
-unfolding answers
-calls-answer pair [] = refl
-calls-answer pair (c ∷ cs) = let s = call-same pair c in rw (s .answered, calls-answer (s .pair) cs)
-
-pub calls-counted : {s₁ s₄ : State} → Pair s₁ s₄ → (cs : List Call) → countedAll s₁ cs ≡ countedAll s₄ cs
-unfolding countedAll
-calls-counted pair [] = refl
-calls-counted pair (c ∷ cs) = let s = call-same pair c in rw (s .counting, calls-counted (s .pair) cs)
+pub calls-same : {s₁ s₄ : State} → Pair s₁ s₄ → (cs : List Call) → SameAll s₁ s₄ cs
+unfolding answers countedAll afterAll
+calls-same pair [] = record { answered = refl; counting = refl; pair = pair }
+calls-same pair (c ∷ cs) =
+    let one = call-same pair c in
+    let rest = calls-same (one .pair) cs in
+    record { answered = rw (one .answered, rest .answered); counting = rw (one .counting, rest .counting); pair = rest .pair }
 
 -- ---- what coupled states share
 
-pub pair-alike : {s₁ s₄ : State} → Pair s₁ s₄ → Alike s₁ s₄
+pair-alike : {s₁ s₄ : State} → Pair s₁ s₄ → Alike s₁ s₄
 pair-alike pair =
     let c = pair .coupled in
     record {
@@ -104,7 +102,7 @@ same-M {s₁} {s₄} pair = omega (arith, one, work)
     one = rw (pair .first .kind, pair .kind, pair .coupled .n)
 
     work : W s₁ ≡ W s₄
-    work = rw (pair .coupled .n, sum-same (s₄ .n) (λ q. taskAt s₁ q .work) (λ q. taskAt s₄ q .work) (λ q h. same-work (pair .coupled) q h .0))
+    work = rw (pair .coupled .n, sum-same (s₄ .n) (λ q. taskAt s₁ q .work) (λ q. taskAt s₄ q .work) (λ q h. same-work (pair .coupled) q h))
 
 ready-from : {s₁ s₄ : State} → Pair s₁ s₄ → (k p : ℕ) → readyFrom s₁ k p ≡ readyFrom s₄ k p
 unfolding readyFrom
@@ -123,4 +121,5 @@ pub counts-down : (i₁ i₄ : Inputs) → freshReason i₁ ≡ 0 → freshReaso
     → (answers (freshOf i₁ .state) cs ≡ answers (freshOf i₄ .state) cs) × Alike (afterAll (freshOf i₁ .state) cs) (afterAll (freshOf i₄ .state) cs)
 counts-down i₁ i₄ e₁ e₄ k₁ k₄ n works cs =
     let pair = fresh-pair i₁ i₄ e₁ e₄ k₁ k₄ n works in
-    rw (fresh-accepted i₁ e₁, fresh-accepted i₄ e₄) (calls-answer pair cs, pair-alike (calls-pair pair cs))
+    let all = calls-same pair cs in
+    rw (fresh-accepted i₁ e₁, fresh-accepted i₄ e₄) (all .answered, pair-alike (all .pair))

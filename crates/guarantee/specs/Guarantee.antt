@@ -12,7 +12,7 @@ use Rattle.centralized.specs.Turns.{same-line, same-count, same-least}
 use Rattle.guarantee.specs.Calls.{Call, afterAll, countedAll, Reached, Close, Behind, M}
 use Rattle.guarantee.specs.Turns.{leads-all}
 use Rattle.guarantee.specs.Instance.{barrierOf, rises, paper-M}
-use Rattle.guarantee.specs.CountsDown.{calls-pair, calls-counted, same-M}
+use Rattle.guarantee.specs.CountsDown.{SameAll, calls-same, same-M}
 use Rattle.guarantee.specs.Reach.{Known, known-after, known-first, Stands, own, carried, stands}
 
 -- "no two counts differ by more than one; a task at its own work is never ahead; and 2 × M stretches that each name every task raise the
@@ -45,12 +45,15 @@ carry s₁ s₄ cs pair g = (
   λ q r hq hr l. omega (arith, same-count end q hq, same-count end r hr, g .1 q r (there hq) (there hr) (same-line end q hq ∙ l)),
   λ low cut.
       let before = same-least (pair .coupled) (range s₄ (pair .valid) .some) in
-      let after = same-least end (range (afterAll s₄ cs) (calls-pair pair cs .valid) .some) in
-      omega (arith, before, after, g .2 (omega (arith, before)) (rw (calls-counted pair cs, same-M pair, pair .coupled .n) cut)),
+      let after = same-least end (range (afterAll s₄ cs) (all .pair .valid) .some) in
+      omega (arith, before, after, g .2 (omega (arith, before)) (rw (all .counting, same-M pair, pair .coupled .n) cut)),
 )
   where
+    all : SameAll s₁ s₄ cs
+    all = calls-same pair cs
+
     end : Coupled (afterAll s₁ cs) (afterAll s₄ cs)
-    end = calls-pair pair cs .coupled
+    end = all .pair .coupled
 
     there : {q : ℕ} → q < afterAll s₄ cs .n → q < afterAll s₁ cs .n
     there {q} h = subst (λ (n : ℕ). q < n) (sym (end .n)) h

@@ -6,6 +6,7 @@ use mathlib.Core.Logic.{_≢_, inl, inr}
 use Prim.Native.Nat.{ℕ, zero, suc, _≤_, _<_}
 use native.Mathlib.Decide.{decLe}
 use native.Mathlib.Omega.{arith}
+use Rattle.lines.specs.LineLaws.{CountsArrivals}
 use Rattle.machine.specs.declared.State.{State}
 use Rattle.machine.specs.declared.Outcome.{Outcome}
 use Rattle.machine.specs.Setters.{taskAt}
@@ -15,7 +16,7 @@ use Rattle.machine.specs.Range.{Valid}
 use Rattle.machine.specs.Turn.{turnOf, reasonNumber}
 use Rattle.machine.specs.TurnLaws.{turn-constants}
 use Rattle.machine.specs.KeepLaws.{turn-valid}
-use Rattle.machine.specs.CountLaws.{CountsArrivals, seven-arrives}
+use Rattle.machine.specs.CountLaws.{seven-arrives}
 use Rattle.barrier.specs.View.{viewOf}
 use Rattle.barrier.specs.Barrier.{AllLeft, Holds}
 use Rattle.barrier.specs.Moves.{fresh-left, keeps-all}
@@ -25,7 +26,7 @@ use Rattle.barrier.specs.WorkLaws.{all-left, works}
 use Rattle.increment.specs.Safe.{never-7}
 use Rattle.centralized.specs.Coupling.{Pair}
 use Rattle.centralized.specs.Fresh.{withKind, same-inputs, fresh-pair}
-use Rattle.centralized.specs.Turns.{same-line, same-work, turns}
+use Rattle.centralized.specs.Turns.{same-line, same-work, same-left, turns}
 use Rattle.playback.specs.Playback.{triplesOf, playReason, playOf}
 use Rattle.playback.specs.PlaybackLaws.{play-accepted, play-keeps}
 use Rattle.playback.specs.Claims.{fresh-first}
@@ -101,8 +102,7 @@ reached-left s r = go (stands s r)
     go (own k) = k .inv .left
     go (carried s₁ pair) = λ q h off.
         let c = pair .coupled in
-        let same = same-work c q h in
-        sym (same .1) ∙ pair .first .left q (subst (λ (n : ℕ). q < n) (sym (c .n)) h) (λ l. off (sym (same-line c q h) ∙ l)) ∙ same .0
+        sym (same-left c q h) ∙ pair .first .left q (subst (λ (n : ℕ). q < n) (sym (c .n)) h) (λ l. off (sym (same-line c q h) ∙ l)) ∙ same-work c q h
 
 -- 02, P6: "A task stays at 11 until it has made that many moves there": p comes to 11 by a turn of q, and stays there for the turns ts
 pub reached-works : (s : State) → Reached s → (p q : ℕ) → p < s .n → taskAt s p .line ≢ 11 → taskAt (turnOf s q .state) p .line ≡ 11
@@ -124,7 +124,7 @@ known-7 : (s : State) (p : ℕ) → Known s → reasonNumber (turnOf s p .outcom
 unfolding barrierOf
 known-7 s p k e = go (k .kind) (k .low) (k .inv)
   where
-    other : s .kind ≢ 1 → s .kind ≢ 4 → CountsArrivals s → ⊥
+    other : s .kind ≢ 1 → s .kind ≢ 4 → CountsArrivals (s .kind) → ⊥
     other n1 n4 (inl k) = n1 k
     other n1 n4 (inr k) = n4 k
 

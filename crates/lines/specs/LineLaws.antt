@@ -87,13 +87,17 @@ module _ (P : Effect → Type 0) (line : ℕ) (t : Task) where
 
 -- ---- what every line does
 
+-- the kinds whose tasks arrive by a shared number
+abbrev pub CountsArrivals : ℕ → Type 0
+CountsArrivals kind = (kind ≡ 1) ⊎ (kind ≡ 4)
+
 -- A line moves and keeps the count, moves and raises it by one from below its limit, waits, or is refused: 7 in the kinds 1 and 4 alone, and 11
 -- at the limit alone. What waits or is refused leaves the task as it was and writes nothing.
 pub data Does (s : Shared) (t : Task) : Effect → Type 0 where
   keeps : {u : Task} {w : Write} → u .count ≡ t .count → Does s t (moves u w)
   raises : {u : Task} {w : Write} → t .count < maxCount → u .count ≡ t .count + 1 → Does s t (moves u w)
   stays : Does s t (waits t)
-  refused-7 : (s .kind ≡ 1) ⊎ (s .kind ≡ 4) → Does s t (refuses 7 t)
+  refused-7 : CountsArrivals (s .kind) → Does s t (refuses 7 t)
   refused-11 : maxCount ≤ t .count → Does s t (refuses 11 t)
 
 pub does : (s : Shared) (table : List ℕ) (p : ℕ) (t seen : Task) → Does s t (effectFrom s table p t seen)

@@ -4,8 +4,6 @@ use crate::Task;
 use crate::Write;
 use crate::common;
 ghost use mathlib.Core.Path.{_≡_};
-ghost use lib.Dec.{eqb};
-ghost use Rattle.bitset.specs.Choice.{pick};
 ghost use Rattle.lines.specs.Centralized as defs;
 
 // 12: the task's sense is the one that the round ends with.
@@ -16,13 +14,6 @@ fn line12(mut task: Task) -> Effect
     common::to(task, 13)
 }
 
-// Where 13 leads, by the arrivals before it: the last task sets them back, another awaits the sense.
-fn after_arrival(arrivals: u8) -> u8
-    ensures { λ r. ⌜ r ≡ pick (eqb arrivals 1) 14 16 ⌝ }
-{
-    if arrivals == 1 { 14 } else { 16 }
-}
-
 // 13: the task arrives, which is refused 7 where all have arrived already.
 fn line13(arrivals: u8, task: Task) -> Effect
     ensures { λ r. ⌜ r ≡ defs.centralized13 arrivals task ⌝ }
@@ -31,7 +22,7 @@ fn line13(arrivals: u8, task: Task) -> Effect
         return common::refuses(7, task);
     }
     let mut next = task;
-    next.line = after_arrival(arrivals);
+    next.line = common::after_arrival(arrivals == 1);
     common::counts(task, next, Write::Arrivals(arrivals - 1))
 }
 

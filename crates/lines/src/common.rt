@@ -6,6 +6,7 @@ use crate::Task;
 use crate::Write;
 ghost use mathlib.Core.Path.{_≡_};
 ghost use Prim.Native.Nat.{_+_};
+ghost use Rattle.bitset.specs.Choice.{pick};
 ghost use Rattle.bitset.specs.Set.{leastOf, firstOf};
 ghost use Rattle.lines.specs.Setters.{withLine, withCount};
 ghost use Rattle.lines.specs.declared.Write.the-variants.{Nothing};
@@ -89,6 +90,13 @@ pub(crate) fn work(mut task: Task) -> Effect
         task.line = 12;
     }
     moves(task, Write::Nothing)
+}
+
+// Where 13 of the kinds that count arrivals leads: the last task to arrive sets them back at 14, another awaits the sense at 16.
+pub(crate) fn after_arrival(last: bool) -> u8
+    ensures { λ r. ⌜ r ≡ pick last 14 16 ⌝ }
+{
+    if last { 14 } else { 16 }
 }
 
 // The least task of a list, as a byte; 64 for the empty list.

@@ -4,8 +4,6 @@ use crate::Task;
 use crate::Write;
 use crate::common;
 ghost use mathlib.Core.Path.{_≡_};
-ghost use lib.Dec.{eqb};
-ghost use Rattle.bitset.specs.Choice.{pick};
 ghost use Rattle.lines.specs.Increment as defs;
 
 // 12: the aim is the sense that the round ends with.
@@ -14,13 +12,6 @@ fn line12(sense: u8, mut task: Task) -> Effect
 {
     task.aim = common::negated(sense);
     common::to(task, 13)
-}
-
-// Where 13 leads: the last of the n arrivals clears them, another awaits the sense.
-fn after_arrival(n: u8, arrived: u8) -> u8
-    ensures { λ r. ⌜ r ≡ pick (eqb arrived n) 14 16 ⌝ }
-{
-    if arrived == n { 14 } else { 16 }
 }
 
 // 13: the task arrives, which is refused 7 where all have arrived already.
@@ -32,7 +23,7 @@ fn line13(n: u8, arrivals: u8, task: Task) -> Effect
     }
     let arrived = arrivals + 1;
     let mut next = task;
-    next.line = after_arrival(n, arrived);
+    next.line = common::after_arrival(arrived == n);
     common::counts(task, next, Write::Arrivals(arrived))
 }
 

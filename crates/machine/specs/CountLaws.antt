@@ -12,7 +12,7 @@ use Rattle.lines.specs.declared.Act.{Act}
 use Rattle.lines.specs.declared.Act.the-variants.{Moves, Waits, Refuses}
 use Rattle.lines.specs.declared.Write.{Write}
 use Rattle.lines.specs.Common.{maxCount}
-use Rattle.lines.specs.LineLaws.{Does, keeps, raises, stays, refused-7, refused-11}
+use Rattle.lines.specs.LineLaws.{CountsArrivals, Does, keeps, raises, stays, refused-7, refused-11}
 use Rattle.machine.specs.declared.State.{State}
 use Rattle.machine.specs.declared.Move.the-variants.{Moved, Waited}
 use Rattle.machine.specs.declared.Outcome.{Outcome}
@@ -86,15 +86,11 @@ abbrev pub Goes : Outcome → Type 0
 Goes (Made how) = Unit {0}
 Goes (Refused k) = ⊥
 
--- the kinds whose tasks arrive by a shared number: 7 at line 13 is theirs
-abbrev pub CountsArrivals : State → Type 0
-CountsArrivals s = (s .kind ≡ 1) ⊎ (s .kind ≡ 4)
-
 -- a line refuses 7, in the kinds 1 and 4, or 11, at a count's limit
-line-refuses : (s : State) (p k : ℕ) → effectOf s p .act ≡ Refuses k → ((k ≡ 7) × CountsArrivals s) ⊎ ((k ≡ 11) × (maxCount ≤ taskAt s p .count))
+line-refuses : (s : State) (p k : ℕ) → effectOf s p .act ≡ Refuses k → ((k ≡ 7) × CountsArrivals (s .kind)) ⊎ ((k ≡ 11) × (maxCount ≤ taskAt s p .count))
 line-refuses s p k = go (effectOf s p) (effect-does s p)
   where
-    go : (e : Effect) → Does (sharedOf s) (taskAt s p) e → e .act ≡ Refuses k → ((k ≡ 7) × CountsArrivals s) ⊎ ((k ≡ 11) × (maxCount ≤ taskAt s p .count))
+    go : (e : Effect) → Does (sharedOf s) (taskAt s p) e → e .act ≡ Refuses k → ((k ≡ 7) × CountsArrivals (s .kind)) ⊎ ((k ≡ 11) × (maxCount ≤ taskAt s p .count))
     go _ (keeps c) e = let z : _≡_ {A = ℕ} 0 1 = cc in absurd (omega arith)
     go _ (raises l c) e = let z : _≡_ {A = ℕ} 0 1 = cc in absurd (omega arith)
     go _ stays e = let z : _≡_ {A = ℕ} 0 1 = cc in absurd (omega arith)
@@ -103,14 +99,14 @@ line-refuses s p k = go (effectOf s p) (effect-does s p)
 
 -- in a state in range a turn of a known task is refused only 7, in the kinds 1 and 4, 11, at a count's limit, or 13, at a tally's
 pub data Why (s : State) (p : ℕ) : ℕ → Type 0 where
-  seven : CountsArrivals s → Why s p 7
+  seven : CountsArrivals (s .kind) → Why s p 7
   eleven : maxCount ≤ taskAt s p .count → Why s p 11
   thirteen : Full (effectOf s p .act) (movesAt s p) (waitsAt s p) → Why s p 13
 
 pub turn-why : (s : State) (p k : ℕ) → Valid s → p < s .n → turnOf s p .outcome ≡ Refused k → Why s p k
 turn-why s p k ok h e = go (refusal-acts s p k ok h e)
   where
-    line : ((k ≡ 7) × CountsArrivals s) ⊎ ((k ≡ 11) × (maxCount ≤ taskAt s p .count)) → Why s p k
+    line : ((k ≡ 7) × CountsArrivals (s .kind)) ⊎ ((k ≡ 11) × (maxCount ≤ taskAt s p .count)) → Why s p k
     line (inl w) = subst (Why s p) (sym (w .0)) (seven (w .1))
     line (inr w) = subst (Why s p) (sym (w .0)) (eleven (w .1))
 
@@ -128,7 +124,7 @@ turn-refusals s p k ok h e = go (turn-why s p k ok h e)
 
 -- so it goes where none of them applies
 pub turn-goes : (s : State) (p : ℕ) → Valid s → p < s .n → taskAt s p .count < maxCount → movesAt s p < maxTally → waitsAt s p < maxTally
-    → (CountsArrivals s → reasonNumber (turnOf s p .outcome) ≢ 7) → Goes (turnOf s p .outcome)
+    → (CountsArrivals (s .kind) → reasonNumber (turnOf s p .outcome) ≢ 7) → Goes (turnOf s p .outcome)
 turn-goes s p ok h low room-m room-w none = go (turnOf s p .outcome) refl
   where
     roomy : (a : Act) → Full a (movesAt s p) (waitsAt s p) → ⊥
@@ -158,13 +154,13 @@ seven-acts s p ok h = go (turnOf s p .outcome) refl
     go (Refused k) e z = line k z (refusal-acts s p k ok h e)
 
 -- and so of a kind that counts arrivals
-pub seven-arrives : (s : State) (p : ℕ) → Valid s → reasonNumber (turnOf s p .outcome) ≡ 7 → CountsArrivals s
+pub seven-arrives : (s : State) (p : ℕ) → Valid s → reasonNumber (turnOf s p .outcome) ≡ 7 → CountsArrivals (s .kind)
 seven-arrives s p ok = split (decLt p (s .n))
   where
-    kind : ((_≡_ {A = ℕ} 7 7) × CountsArrivals s) ⊎ ((_≡_ {A = ℕ} 7 11) × (maxCount ≤ taskAt s p .count)) → CountsArrivals s
+    kind : ((_≡_ {A = ℕ} 7 7) × CountsArrivals (s .kind)) ⊎ ((_≡_ {A = ℕ} 7 11) × (maxCount ≤ taskAt s p .count)) → CountsArrivals (s .kind)
     kind (inl w) = w .1
     kind (inr w) = absurd (omega (arith, w .0))
 
-    split : Dec (p < s .n) → reasonNumber (turnOf s p .outcome) ≡ 7 → CountsArrivals s
+    split : Dec (p < s .n) → reasonNumber (turnOf s p .outcome) ≡ 7 → CountsArrivals (s .kind)
     split (yes h) = λ e. kind (line-refuses s p 7 (seven-acts s p ok h e))
     split (no h) = rw (turn-unknown s p ok (omega arith)) (λ e. absurd (omega arith))
