@@ -1,7 +1,7 @@
 -- The words of demand 3 (01, "What demand 3 means"), over the definitions that the contracts of fresh, turn and run cite.
 use mathlib.Core.Path.{_≡_}
 use mathlib.Core.List.{List, [], _∷_, _++_}
-use Prim.Native.Nat.{ℕ, _+_, _-_, _*_, _≤_, _<_}
+use Prim.Native.Nat.{ℕ, _+_, _≤_, _<_}
 use lib.Dec.{eqb}
 use lib.ListN.{length}
 use Rattle.bitset.specs.Choice.{pick}
@@ -11,7 +11,7 @@ use Rattle.machine.specs.declared.Outcome.the-variants.{Made, Refused}
 use Rattle.machine.specs.Setters.{taskAt}
 use Rattle.machine.specs.Fresh.{Inputs, freshReason, freshOf}
 use Rattle.machine.specs.Turn.{turnOf}
-use Rattle.barrier.specs.Sum.{sum}
+use Rattle.bound.specs.Bound.{promised}
 use Rattle.runner.specs.Trace.{countedIn}
 use Rattle.runner.specs.Run.{runReason, runTrace, runOf}
 
@@ -63,20 +63,10 @@ Close s = (q r : ℕ) → q < s .n → r < s .n → taskAt s q .count ≤ taskAt
 abbrev pub Behind : State → Type 0
 Behind s = (q r : ℕ) → q < s .n → r < s .n → taskAt s q .line ≡ 11 → taskAt s q .count ≤ taskAt s r .count
 
--- demand 3: "M is N(2N+3) symmetric, 5N fetch-and-increment and ring, 10N − 3 tree": with one move of work in a round.
--- 02, P7: "M is as for kind 1", for kind 4.
-abbrev pub M₁ : State → ℕ
-M₁ s =
-    pick (eqb (s .kind) 0) (s .n * (2 * s .n + 3))
-    (pick (eqb (s .kind) 1) (5 * s .n)
-    (pick (eqb (s .kind) 2) (5 * s .n)
-    (pick (eqb (s .kind) 3) (10 * s .n - 3)
-    (pick (eqb (s .kind) 4) (5 * s .n) 0))))
+-- the work lengths of a state
+abbrev pub worksOf : State → ℕ → ℕ
+worksOf s q = taskAt s q .work
 
--- 02, P6: "the sum of all work lengths less N"
-abbrev pub W : State → ℕ
-W s = sum (s .n) (λ q. taskAt s q .work) - s .n
-
--- "In the progress rule M grows by" it
-abbrev pub M : State → ℕ
-M s = M₁ s + W s
+-- demand 3: "2 × M", of the state's own kind, N and work lengths
+abbrev pub promisedIn : State → ℕ
+promisedIn s = promised (s .kind) (s .n) (worksOf s)

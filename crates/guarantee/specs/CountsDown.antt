@@ -4,16 +4,14 @@ use mathlib.Core.Path.{_≡_, refl, sym, ap, _∙_}
 use mathlib.Core.List.{List, [], _∷_}
 use Prim.Native.Nat.{ℕ, zero, suc, _+_}
 use native.Mathlib.Decide.{ℕ-discrete}
-use native.Mathlib.Omega.{arith}
 use lib.ListN.{length, take}
 use borrow.Author.Tests.{ne-eqb}
 use Rattle.machine.specs.declared.State.{State}
-use Rattle.machine.specs.Setters.{taskAt}
 use Rattle.machine.specs.Fresh.{Inputs, freshReason, freshOf}
 use Rattle.machine.specs.FreshLaws.{fresh-accepted}
 use Rattle.machine.specs.Ready.{readyFrom, readyOf}
 use Rattle.machine.specs.ReadyLaws.{ready-is}
-use Rattle.barrier.specs.Sum.{sum-same}
+use Rattle.bound.specs.BoundLaws.{promised-same}
 use Rattle.runner.specs.Trace.{traceOf}
 use Rattle.runner.specs.Run.{runReason, runOf, logAfter}
 use Rattle.runner.specs.RunLaws.{run-accepts, run-refuses}
@@ -21,7 +19,7 @@ use Rattle.centralized.specs.Coupling.{Pair}
 use Rattle.centralized.specs.Fresh.{fresh-pair}
 use Rattle.centralized.specs.Turns.{same-line, same-count, same-work, turns}
 use Rattle.centralized.specs.Runs.{Traced, traces, same-reason}
-use Rattle.guarantee.specs.Calls.{Call, turn, run, after, afterAll, countedTurn, counted, countedAll, M₁, W, M}
+use Rattle.guarantee.specs.Calls.{Call, turn, run, after, afterAll, countedTurn, counted, countedAll, worksOf, promisedIn}
 use Rattle.guarantee.specs.Answers.{turned, answer, answers, Alike}
 
 -- ---- a call of coupled states
@@ -95,14 +93,9 @@ pair-alike pair =
     }
 
 -- "M is as for kind 1."
-pub same-M : {s₁ s₄ : State} → Pair s₁ s₄ → M s₁ ≡ M s₄
-same-M {s₁} {s₄} pair = omega (arith, one, work)
-  where
-    one : M₁ s₁ ≡ M₁ s₄
-    one = rw (pair .first .kind, pair .kind, pair .coupled .n)
-
-    work : W s₁ ≡ W s₄
-    work = rw (pair .coupled .n, sum-same (s₄ .n) (λ q. taskAt s₁ q .work) (λ q. taskAt s₄ q .work) (λ q h. same-work (pair .coupled) q h))
+pub same-promise : {s₁ s₄ : State} → Pair s₁ s₄ → promisedIn s₁ ≡ promisedIn s₄
+same-promise {s₁} {s₄} pair =
+    rw (pair .first .kind, pair .kind, pair .coupled .n) (promised-same 4 (s₄ .n) (worksOf s₁) (worksOf s₄) (same-work (pair .coupled)))
 
 ready-from : {s₁ s₄ : State} → Pair s₁ s₄ → (k p : ℕ) → readyFrom s₁ k p ≡ readyFrom s₄ k p
 unfolding readyFrom

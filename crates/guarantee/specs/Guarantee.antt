@@ -1,7 +1,7 @@
 -- Demand 3: one theorem for every list of turns and runs from any reached state. Its words stand in Calls.antt.
 use mathlib.Core.Path.{sym, _∙_, subst}
 use mathlib.Core.List.{List}
-use Prim.Native.Nat.{ℕ, _*_, _<_}
+use Prim.Native.Nat.{ℕ, _<_}
 use native.Mathlib.Omega.{arith}
 use Rattle.schedule.specs.Stretch.{CutInto}
 use Rattle.machine.specs.declared.State.{State}
@@ -9,10 +9,10 @@ use Rattle.machine.specs.RangeLaws.{range}
 use Rattle.machine.specs.Least.{least}
 use Rattle.centralized.specs.Coupling.{Coupled, Pair}
 use Rattle.centralized.specs.Turns.{same-line, same-count, same-least}
-use Rattle.guarantee.specs.Calls.{Call, afterAll, countedAll, Reached, Close, Behind, M}
+use Rattle.guarantee.specs.Calls.{Call, afterAll, countedAll, Reached, Close, Behind, promisedIn}
 use Rattle.guarantee.specs.Turns.{leads-all}
 use Rattle.guarantee.specs.Instance.{barrierOf, rises, paper-M}
-use Rattle.guarantee.specs.CountsDown.{SameAll, calls-same, same-M}
+use Rattle.guarantee.specs.CountsDown.{SameAll, calls-same, same-promise}
 use Rattle.guarantee.specs.Reach.{Known, known-after, known-first, Stands, own, carried, stands}
 
 -- "no two counts differ by more than one; a task at its own work is never ahead; and 2 × M stretches that each name every task raise the
@@ -21,7 +21,7 @@ abbrev pub Guaranteed : State → List Call → Type 0
 Guaranteed s cs =
     Close (afterAll s cs)
     × Behind (afterAll s cs)
-    × (least s < 1000000 → CutInto (s .n) (2 * M s) (countedAll s cs) → least s < least (afterAll s cs))
+    × (least s < 1000000 → CutInto (s .n) (promisedIn s) (countedAll s cs) → least s < least (afterAll s cs))
 
 -- from a state that has its barrier's invariant
 of-known : (s : State) (cs : List Call) → Known s → Guaranteed s cs
@@ -46,7 +46,7 @@ carry s₁ s₄ cs pair g = (
   λ low cut.
       let before = same-least (pair .coupled) (range s₄ (pair .valid) .some) in
       let after = same-least end (range (afterAll s₄ cs) (all .pair .valid) .some) in
-      omega (arith, before, after, g .2 (omega (arith, before)) (rw (all .counting, same-M pair, pair .coupled .n) cut)),
+      omega (arith, before, after, g .2 (omega (arith, before)) (rw (all .counting, same-promise pair, pair .coupled .n) cut)),
 )
   where
     all : SameAll s₁ s₄ cs

@@ -28,7 +28,8 @@ use Rattle.ring.specs.Ring.{ring}
 use Rattle.tree.specs.Tree.{tree}
 use Rattle.tree.specs.TreeRange.{is-tree}
 use Rattle.tree.specs.Total.{total}
-use Rattle.guarantee.specs.Calls.{M₁, W, M}
+use Rattle.bound.specs.Bound.{M₁, W, M}
+use Rattle.guarantee.specs.Calls.{worksOf}
 use Rattle.guarantee.specs.Turns.{turned-to, Counts, afterTurns, AllCounted}
 
 -- the barrier of a kind
@@ -92,7 +93,7 @@ rises b s ts i low counts cut =
     progress (counting b (s .n) (movesOf b s)) s ts (record { inv = i; tasks = refl; moves = refl }) low counts cut (le-refl (2 * movesOf b s))
 
 -- the moves of the work beyond the first of each task are W
-paper-W : (s : State) → Valid s → sum (s .n) (λ q. taskAt s q .work - 1) ≡ W s
+paper-W : (s : State) → Valid s → sum (s .n) (λ q. taskAt s q .work - 1) ≡ W (s .n) (worksOf s)
 paper-W s ok =
     let each : (q : ℕ) → q < s .n → taskAt s q .work - 1 + 1 ≡ taskAt s q .work
     = λ q h. let mine = range s ok .tasks q h in omega (arith, mine .left-from, mine .left-to) in
@@ -100,7 +101,7 @@ paper-W s ok =
     omega (arith, all, sum-add (s .n) (λ q. taskAt s q .work - 1) (λ _. 1), sum-const (s .n) 1)
 
 -- with one move of work, the moves of a round are the M of 01
-paper-M₁ : (kind : ℕ) (h : kind ≤ 3) (s : State) → Holds kind (barrierOf kind h .Inv) s → sum (s .n) (barrierOf kind h .L (s .n) (tableOf s)) ≡ M₁ s
+paper-M₁ : (kind : ℕ) (h : kind ≤ 3) (s : State) → Holds kind (barrierOf kind h .Inv) s → sum (s .n) (barrierOf kind h .L (s .n) (tableOf s)) ≡ M₁ (s .kind) (s .n)
 unfolding barrierOf
 paper-M₁ zero h s i = sum-const (s .n) (2 * s .n + 3) ∙ rw (i .kind)
 paper-M₁ (suc zero) h s i = rw (i .kind) (omega (arith, sum-const (s .n) 5))
@@ -109,6 +110,6 @@ paper-M₁ (suc (suc (suc zero))) h s i = rw (i .kind) (total (s .n) (tableOf s)
 paper-M₁ (suc (suc (suc (suc k)))) h s i = absurd (omega arith)
 
 -- the moves of a round, all tasks together, are the M of the papers
-pub paper-M : (kind : ℕ) (h : kind ≤ 3) (s : State) → Holds kind (barrierOf kind h .Inv) s → movesOf (barrierOf kind h) s ≡ M s
+pub paper-M : (kind : ℕ) (h : kind ≤ 3) (s : State) → Holds kind (barrierOf kind h .Inv) s → movesOf (barrierOf kind h) s ≡ M (s .kind) (s .n) (worksOf s)
 paper-M kind h s i =
     omega (arith, sum-add (s .n) (barrierOf kind h .L (s .n) (tableOf s)) (λ q. taskAt s q .work - 1), paper-M₁ kind h s i, paper-W s (i .valid))

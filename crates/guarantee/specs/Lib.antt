@@ -9,6 +9,7 @@ pub mod Instance
 pub mod Reach
 pub mod Guarantee
 pub mod Promise
+pub mod Limit
 pub mod Accepted
 pub mod Tallies
 pub mod Done

@@ -18,7 +18,7 @@ use Rattle.parents.specs.Parents.{checkOf}
 use Rattle.parents.specs.ParentsLaws.{accepted, entries-below, check-alike}
 use Rattle.lines.specs.declared.Task.{Task}
 use Rattle.lines.specs.Setters.{zeroTask}
-use Rattle.machine.specs.Setters.{movesAt, waitsAt}
+use Rattle.machine.specs.Setters.{taskAt, movesAt, waitsAt}
 use Rattle.machine.specs.Fresh.{Inputs, lastKind, isKind, hasSense, modulusOk, parentsReason, allBelow, startsReason, isWork, allWork, worksReason, firstReason, tablesReason, freshReason, startOf, workOf, freshTask, freshTasks, padded, freshState, freshOf}
 use Rattle.machine.specs.Range.{tableOf, fieldOk, listRoom, allZero, parentsOk, taskZero, Valid}
 use Rattle.bitset.specs.ChoiceLaws.{by-test}
@@ -217,6 +217,18 @@ fresh-reason i = refl
 pub fresh-accepted : (i : Inputs) → freshReason i ≡ 0 → freshOf i .state ≡ freshState i
 unfolding freshOf
 fresh-accepted i e = rw (eq-eqb (freshReason i) 0 e)
+
+-- a ring takes no parents and no starts: it is refused for N and for its work table alone
+abbrev pub ringInputs : ℕ → List ℕ → Inputs
+ringInputs n works = record { kind = 2; n = n; modulus = 0; parents = []; starts = []; works = works }
+
+pub ring-reason : (n : ℕ) (works : List ℕ) → freshReason (ringInputs n works) ≡ pick (isCount n) (worksReason n works) 3
+unfolding freshReason
+ring-reason n works = refl
+
+-- the work length of a task that is there
+pub fresh-work : (i : Inputs) (q : ℕ) → q < i .n → taskAt (freshState i) q .work ≡ workOf (i .works) q
+fresh-work i q h = ap (λ (t : Task). t .work) (fresh-at (i .n) q (freshTask i) h)
 
 -- ---- other numbers in the tables
 

@@ -1,0 +1,3 @@
+-- The bound of demand 3 (`Bound`), and its laws.
+pub mod Bound
+pub mod BoundLaws
