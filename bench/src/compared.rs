@@ -18,5 +18,11 @@ pub mod refusal;
 #[path = "../../second/src/schedules.rs"]
 pub mod schedules;
 #[allow(dead_code)]
+#[path = "../../second/src/setup.rs"]
+pub mod setup;
+#[allow(dead_code)]
+#[path = "../../second/src/shapes.rs"]
+pub mod shapes;
+#[allow(dead_code)]
 #[path = "../../second/src/sheet.rs"]
 pub mod sheet;

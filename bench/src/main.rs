@@ -1,13 +1,13 @@
 //! Holds the library against the second program, which changes its state in place: compares the answers, or measures both on the same
 //! schedules and texts and prints the tables of docs/performance.md.
 
-mod answer;
 mod baseline;
 mod check;
 mod library;
 mod measure;
 mod memory;
 mod stack;
+mod start;
 mod tables;
 mod targets;
 mod work;

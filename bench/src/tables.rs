@@ -4,7 +4,7 @@ use crate::measure::{measure, median, Times};
 use crate::memory::peak;
 use crate::stack;
 use crate::targets::{self, verdict};
-use crate::work::{text, Cut, Manner, Play, Run, Sheet, KINDS, TRIPLES, TURNS};
+use crate::work::{text, Cut, Manner, Play, Reading, Rows, Run, Sheet, KINDS, TRIPLES, TURNS};
 
 const SIZES: [usize; 2] = [12, 64];
 
@@ -12,8 +12,10 @@ pub fn print(rounds: usize) {
     println!("Medians of {rounds} interleaved rounds.\n");
     print_runs(rounds);
     print_growth(rounds);
+    print_rows(rounds);
     print_passes(rounds);
     print_plays(rounds);
+    print_readings(rounds);
     print_sheets(rounds);
     print_memory();
 }
@@ -127,6 +129,23 @@ fn spread(manner: Manner, by_n: &[f64]) -> f64 {
     highest(counted.iter().copied()) / lowest(counted.iter().copied())
 }
 
+/// Runs with a row for each turn, from a state list: nanoseconds a turn. No target is set.
+fn print_rows(rounds: usize) {
+    println!("A run of {TURNS} turns of a random schedule with its rows, nanoseconds a turn:\n");
+    head(&["kind", "N", "library", "baseline", "ratio"]);
+    let mut ratios = Vec::new();
+    for (kind, name) in KINDS {
+        let schedule = |n| Manner::Random.schedule(n, TURNS);
+        let mut runs = SIZES.map(|n| Rows::new(kind, n, schedule(n)));
+        for (n, times) in SIZES.into_iter().zip(measure(&mut runs, rounds)) {
+            ratios.push(times.ratio());
+            row(&[&[name.into(), n.to_string()], &each(TURNS, times)[..]].concat());
+        }
+    }
+    row(&["median over kinds", "", "", "", &tenths(median(ratios))].map(String::from));
+    println!();
+}
+
 /// The passes of 65,536 turns.
 fn print_passes(rounds: usize) {
     println!("Passes of {TURNS} turns, MB a second:\n");
@@ -164,6 +183,20 @@ fn print_plays(rounds: usize) {
     for ((differs, trace), ratios) in traces.into_iter().zip(ratios) {
         let verdict = verdict(median(ratios), targets::play(differs));
         row(&["median over kinds", "", trace, "", "", &verdict].map(String::from));
+    }
+    println!();
+}
+
+/// The longest texts, read and not run. No target is set.
+fn print_readings(rounds: usize) {
+    println!("The reading of a text of 65,536 bytes with a random schedule, MB a second:\n");
+    head(&["kind", "N", "library", "baseline", "ratio of the times"]);
+    for (kind, name) in KINDS {
+        let mut readings = SIZES.map(|n| Reading::new(text(kind, n, "")));
+        let times = measure(&mut readings, rounds);
+        for ((n, reading), times) in SIZES.into_iter().zip(&readings).zip(times) {
+            row(&[&[name.into(), n.to_string()], &rates(reading.text.len(), times)[..]].concat());
+        }
     }
     println!();
 }

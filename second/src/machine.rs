@@ -12,7 +12,7 @@ pub const TREE: u8 = 3;
 pub const CENTRALIZED: u8 = 4;
 
 /// The highest kind. The highest shape of a tree is another limit, which no kind moves.
-const LAST_KIND: u8 = CENTRALIZED;
+pub const LAST_KIND: u8 = CENTRALIZED;
 
 /// All kinds.
 pub const KINDS: [u8; 5] = [SYMMETRIC, FETCH_AND_INCREMENT, RING, TREE, CENTRALIZED];
@@ -206,7 +206,7 @@ fn starts_fit(kind: u8, n: usize, starts: &[u8]) -> bool {
 }
 
 /// There is no work table, or it has an entry from 1 on for each task.
-fn works_fit(n: usize, works: &[u8]) -> bool {
+pub fn works_fit(n: usize, works: &[u8]) -> bool {
     works.is_empty() || (works.len() == n && works.iter().all(|&work| work > 0))
 }
 
@@ -788,7 +788,12 @@ pub fn run(state: &mut State, schedule: &[u8], allowance: u64, log: &mut [u8]) -
 }
 
 /// Checks 7 to 10 of a run. Gives the most turns that the run can make.
-fn check_run(state: &State, schedule: &[u8], allowance: u64, log: &[u8]) -> Result<usize, Refusal> {
+pub fn check_run(
+    state: &State,
+    schedule: &[u8],
+    allowance: u64,
+    log: &[u8],
+) -> Result<usize, Refusal> {
     if !in_range(state) {
         return Err(Refusal::Range);
     }

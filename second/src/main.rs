@@ -1,6 +1,7 @@
 //! The second program: the five barriers once more, to hold another program's answers against.
 //! This file holds the commands.
 
+mod calls;
 mod cases;
 mod machine;
 mod parents;
@@ -42,6 +43,9 @@ usage:
   second play SETUP TRACE         play the trace of one file from the setup of another
   second plays DIR                write setups, traces and what they show to DIR/NAME.setup,
                                   DIR/NAME.trace and DIR/NAME.played
+  second call                     answer the calls on standard input
+  second calls DIR                write the calls to DIR/requests and their answers to DIR/answers
+  second compare DIR FILE         compare the answers to the calls in a file with those in DIR
   second traces                   print the named traces of kind 0 that have no start table
   second random SEED COUNT        print so many random requests
   second soak MINUTES COMMAND..   hold random requests against another program
@@ -76,6 +80,9 @@ fn command(arguments: &[&str]) -> Result<io::Result<bool>, &'static str> {
         ["sheets", folder] => Ok(sheets(Path::new(folder)).map(|()| true)),
         ["play", setup, trace] => Ok(play(Path::new(setup), Path::new(trace)).map(|()| true)),
         ["plays", folder] => Ok(plays(Path::new(folder)).map(|()| true)),
+        ["call"] => Ok(call().map(|()| true)),
+        ["calls", folder] => Ok(calls(Path::new(folder)).map(|()| true)),
+        ["compare", folder, answered] => Ok(compare(Path::new(folder), Path::new(answered))),
         ["traces"] => Ok(print(&traces::table()).map(|()| true)),
         ["random", seed, count] => {
             let numbers = "SEED and COUNT are whole numbers";
@@ -101,7 +108,8 @@ fn write(folder: &Path) -> io::Result<()> {
 fn answer() -> io::Result<()> {
     let input = BufReader::with_capacity(1 << 16, io::stdin().lock());
     let output = BufWriter::with_capacity(1 << 16, io::stdout().lock());
-    serve::answer(input, output)
+    let mut replay = requests::Replay::default();
+    serve::answer(input, output, |line| replay.answer(line))
 }
 
 fn sheet() -> io::Result<()> {
@@ -125,6 +133,29 @@ fn plays(folder: &Path) -> io::Result<()> {
     let count = plays::write(folder)?;
     println!("{count} plays");
     Ok(())
+}
+
+fn call() -> io::Result<()> {
+    let input = BufReader::with_capacity(1 << 16, io::stdin().lock());
+    let output = BufWriter::with_capacity(1 << 16, io::stdout().lock());
+    let mut caller = calls::caller::Caller::default();
+    serve::answer(input, output, |line| caller.answer(line).unwrap_or_else(|| "bad line".into()))
+}
+
+fn calls(folder: &Path) -> io::Result<()> {
+    let count = calls::write(folder)?;
+    println!("{count} requests");
+    Ok(())
+}
+
+/// Gives whether the answers are the same.
+fn compare(folder: &Path, answered: &Path) -> io::Result<bool> {
+    let compared = calls::compare::compare(folder, answered)?;
+    match &compared {
+        Ok(count) => println!("calls: {count} requests agree"),
+        Err(difference) => print!("{difference}"),
+    }
+    Ok(compared.is_ok())
 }
 
 fn random(seed: u64, count: usize) -> io::Result<()> {

@@ -13,12 +13,12 @@ pub const MAX_LINE: usize = 1_048_576;
 const MAX_DIGITS: usize = 20;
 
 /// The most entries of each part of a request.
-const MAX_REQUEST_TURNS: usize = 70_000;
-const MAX_REQUEST_TABLE: usize = 4_096;
-const MAX_REQUEST_TRACE: usize = 70_000;
+pub const MAX_REQUEST_TURNS: usize = 70_000;
+pub const MAX_REQUEST_TABLE: usize = 4_096;
+pub const MAX_REQUEST_TRACE: usize = 70_000;
 const MAX_LOG: u64 = 131_072;
 const MAX_LIST: u64 = 131_072;
-const MAX_TABLE: u64 = 4_096;
+pub const MAX_TABLE: u64 = 4_096;
 
 /// The numbers of a task's fields in request 6. Request 5 shows them in this order.
 pub const TASK_FIELDS: [u64; 15] = [0, 1, 2, 3, 4, 5, 6, 7, 8, 15, 16, 17, 18, 19, 20];
@@ -147,25 +147,33 @@ impl Replay {
     /// Request 5.
     fn show(&self) -> String {
         let mut line = String::new();
-        append(&mut line, &shared_fields(&self.state));
-        append(&mut line, &self.state.parents);
-        for task in &self.state.tasks {
-            append(&mut line, &task_fields(task));
-        }
+        append(&mut line, &all_fields(&self.state));
         line
     }
 
     /// Request 6.
     fn change(&mut self, field: u64, task: u64, value: u64) -> Option<String> {
         let task = usize::try_from(task).ok()?;
-        match field {
-            0..=8 | 15..=20 => change_task(self.state.tasks.get_mut(task)?, field, value)?,
-            9..=13 if task == 0 => *shared_field(&mut self.state, field) = byte(value)?,
-            14 => *self.state.parents.get_mut(task)? = byte(value)?,
-            _ => return None,
-        }
+        change_field(&mut self.state, field, task, value)?;
         Some("ok".to_string())
     }
+}
+
+/// All fields of a state in the order of request 5.
+pub fn all_fields(state: &State) -> Vec<u64> {
+    let shared = shared_fields(state).into_iter().chain(state.parents).map(u64::from);
+    shared.chain(state.tasks.iter().flat_map(task_fields)).collect()
+}
+
+/// Changes a field by its number in request 6, if it is there and the value fits its type.
+pub fn change_field(state: &mut State, field: u64, task: usize, value: u64) -> Option<()> {
+    match field {
+        0..=8 | 15..=20 => change_task(state.tasks.get_mut(task)?, field, value)?,
+        9..=13 if task == 0 => *shared_field(state, field) = byte(value)?,
+        14 => *state.parents.get_mut(task)? = byte(value)?,
+        _ => return None,
+    }
+    Some(())
 }
 
 /// The fields of a task in the order of their numbers.
@@ -290,7 +298,7 @@ fn ending(ending: Ending) -> String {
 }
 
 /// The numbers of a line, or none if it isn't a line of numbers.
-fn numbers(line: &[u8]) -> Option<Vec<u64>> {
+pub fn numbers(line: &[u8]) -> Option<Vec<u64>> {
     if line.len() > MAX_LINE {
         return None;
     }
@@ -320,7 +328,7 @@ fn word(number: u64) -> Option<u32> {
 }
 
 /// The numbers as bytes, if they fit and aren't too many.
-fn bytes(numbers: &[u64], most: usize) -> Option<Vec<u8>> {
+pub fn bytes(numbers: &[u64], most: usize) -> Option<Vec<u8>> {
     if numbers.len() > most {
         return None;
     }
@@ -329,7 +337,7 @@ fn bytes(numbers: &[u64], most: usize) -> Option<Vec<u8>> {
 
 /// The first entries as a parent, a start and a work table of so many bytes, and the entries after
 /// them.
-fn first_tables(entries: &[u64], lengths: [u64; 3]) -> Option<([Vec<u8>; 3], &[u64])> {
+pub fn first_tables(entries: &[u64], lengths: [u64; 3]) -> Option<([Vec<u8>; 3], &[u64])> {
     let (parents, rest) = first_table(entries, lengths[0])?;
     let (starts, rest) = first_table(rest, lengths[1])?;
     let (works, rest) = first_table(rest, lengths[2])?;
@@ -343,12 +351,12 @@ fn first_table(entries: &[u64], length: u64) -> Option<(Vec<u8>, &[u64])> {
 }
 
 /// A buffer to lend, filled with one value, if it isn't too long.
-fn lent<T: Clone>(length: u64, most: u64, value: T) -> Option<Vec<T>> {
+pub fn lent<T: Clone>(length: u64, most: u64, value: T) -> Option<Vec<T>> {
     (length <= most).then(|| vec![value; length as usize])
 }
 
 /// Appends values to a line, with a single space between any two.
-fn append<T: Display>(line: &mut String, values: &[T]) {
+pub fn append<T: Display>(line: &mut String, values: &[T]) {
     for value in values {
         if !line.is_empty() {
             line.push(' ');

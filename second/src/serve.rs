@@ -1,14 +1,17 @@
 //! Answers the request lines of an input, one answer line for each.
 
-use super::requests::{Replay, MAX_LINE};
+use super::requests::MAX_LINE;
 use std::io::{self, BufRead, Write};
 
-/// Answers every line; the last one may be without a line feed.
-pub fn answer(mut input: impl BufRead, mut output: impl Write) -> io::Result<()> {
-    let mut replay = Replay::default();
+/// Answers every line, the replay's or the calls'; the last one may be without a line feed.
+pub fn answer(
+    mut input: impl BufRead,
+    mut output: impl Write,
+    mut answer: impl FnMut(&[u8]) -> String,
+) -> io::Result<()> {
     let mut line = Vec::new();
     while read_line(&mut input, &mut line)? {
-        output.write_all(replay.answer(&line).as_bytes())?;
+        output.write_all(answer(&line).as_bytes())?;
         output.write_all(b"\n")?;
     }
     output.flush()

@@ -1,9 +1,10 @@
-//! The sheet: a text of numbers in, the table of a whole run or a refusal out. The reading of the
-//! text is the setup's of a play too.
+//! The sheet: a text of numbers in, the table of a whole run or a refusal out. What a text says is a
+//! call of its own, and the numbers of a text are read for the setup of a play too.
 
-use super::machine::{fresh, least_count, run, Ending, Report, State, Tables, TREE};
+use super::machine::{fresh, least_count, run, Ending, Report, State, TREE};
 use super::passes::Passes;
-use super::refusal::Refusal;
+use super::refusal::{check_schedule, Refusal};
+use super::setup::Setup;
 use std::fmt::Write;
 
 /// The most bytes of a text.
@@ -22,21 +23,33 @@ pub fn sheet(text: &[u8]) -> String {
 
 /// Reads the text, runs its schedule from a fresh state and writes the table.
 fn whole_run(text: &[u8]) -> Result<String, Refusal> {
-    let numbers = numbers(text)?;
-    let [kind, n, modulus, rest @ ..] = &numbers[..] else {
-        return Err(Refusal::Text);
-    };
-    let entries = if *kind == u64::from(TREE) { *n } else { 0 };
-    let (parents, schedule) = rest.split_at(entries.min(rest.len() as u64) as usize);
+    let (setup, schedule) = read(text)?;
     let mut state = State::ZERO;
-    fresh(&mut state, *kind, *n, *modulus, Tables::of_parents(&bytes(parents)))?;
-    let schedule = bytes(schedule);
+    fresh(&mut state, setup.kind, setup.n, setup.modulus, setup.tables())?;
     let mut log = vec![0; 2 * schedule.len()];
     let report = run(&mut state, &schedule, schedule.len() as u64, &mut log);
     match report.ending {
         Ending::Stopped(refusal) | Ending::Refused(refusal) => Err(refusal),
         Ending::Done | Ending::Spent => Ok(table(&state, &report, &schedule)),
     }
+}
+
+/// Reads kind, N, R and parents, then the schedule. Checks 1 to 6, then 9. No text has too many
+/// turns for 8.
+pub fn read(text: &[u8]) -> Result<(Setup, Vec<u8>), Refusal> {
+    let numbers = numbers(text)?;
+    let [kind, n, modulus, rest @ ..] = &numbers[..] else {
+        return Err(Refusal::Text);
+    };
+    let entries = if *kind == u64::from(TREE) { *n } else { 0 };
+    let (parents, schedule) = rest.split_at(entries.min(rest.len() as u64) as usize);
+    let (kind, n, modulus, parents) = (*kind, *n, *modulus, bytes(parents));
+    let setup = Setup { kind, n, modulus, parents, ..Setup::default() };
+    let mut state = State::ZERO;
+    fresh(&mut state, kind, n, modulus, setup.tables())?;
+    let schedule = bytes(schedule);
+    check_schedule(n as usize, &schedule)?;
+    Ok((setup, schedule))
 }
 
 /// Check 1 but for how many numbers there are, and the numbers of the text.

@@ -1,8 +1,12 @@
 //! Tests: the scope's cases and traps, the refusals, starts, rounds, tallies, play-back, own work,
 //! the centralized barrier beside the one it answers like, all reachable states of small barriers,
-//! and the texts of the sheet, the play and the replay.
+//! the texts of the sheet, the play and the replay, and the exported functions as calls.
 
 mod calls;
+mod calls_compare;
+mod calls_functions;
+mod calls_lists;
+mod calls_written;
 mod centralized;
 mod playback;
 mod plays;

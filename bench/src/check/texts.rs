@@ -1,8 +1,8 @@
-//! What the sheet is called with.
+//! What the sheet and the reading of a text are called with.
 
-use crate::answer::Start;
 use crate::compared::random::Random;
 use crate::compared::sheet::MAX_TEXT;
+use crate::start::Start;
 
 /// The text of a start, with any separators, and some needless zeros.
 pub fn text(random: &mut Random, start: &Start) -> Vec<u8> {

@@ -1,10 +1,10 @@
 //! Traces to play back.
 
-use crate::answer::Start;
 use crate::compared::machine::{fresh, run, State, Tables, RING};
 use crate::compared::playback::MAX_TRACE;
 use crate::compared::random::Random;
 use crate::compared::schedules;
+use crate::start::Start;
 
 /// The trace of a start's schedule, one with a byte changed, and one that is cut anywhere.
 pub fn all(random: &mut Random, start: &Start) -> [Vec<u8>; 3] {
@@ -21,7 +21,7 @@ pub fn all(random: &mut Random, start: &Start) -> [Vec<u8>; 3] {
 /// The trace of the run of a start's schedule, as far as a trace can go. Where the run is refused, its schedule with a line and an outcome for each turn.
 fn woven(start: &Start) -> Vec<u8> {
     let Start { kind, n, modulus, schedule, .. } = start;
-    let [parents, starts, works] = start.tables();
+    let Start { parents, starts, works, .. } = start;
     let schedule = &schedule[..schedule.len().min(MAX_TRACE / 3)];
     let mut state = State::ZERO;
     let mut log = [11, 1].repeat(schedule.len());

@@ -54,6 +54,15 @@ accepted-inputs i e = go (isKind (i .kind)) (isCount (i .n)) (modulusOk (i .kind
     go true false c ea eb ec e = absurd (omega arith)
     go false b c ea eb ec e = absurd (omega arith)
 
+-- its parents fit the state's 64
+pub parents-few : (i : Inputs) → Accepted i → length (i .parents) ≤ 64
+parents-few i a = go (eqb (i .kind) 3) (eqb (length (i .parents)) 0) refl (a .parents)
+  where
+    go : (b z : Bool) → eqb (length (i .parents)) 0 ≡ z → pick b (checkOf (i .parents) (i .n)) (pick z 0 5) ≡ 0 → length (i .parents) ≤ 64
+    go true z ez e = omega (arith, accepted (i .parents) (i .n) e .long, a .few)
+    go false true ez e = omega (arith, eqb-true (length (i .parents)) 0 ez)
+    go false false ez e = absurd (omega arith)
+
 pub inputs-accepted : (i : Inputs) → Accepted i → freshReason i ≡ 0
 unfolding freshReason
 inputs-accepted i a =

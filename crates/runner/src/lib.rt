@@ -14,7 +14,7 @@ ghost use Rattle.counts.specs.CountsLaws.{KeptOrRaised};
 ghost use Rattle.machine.specs.Range.{Valid, tableOf};
 ghost use Rattle.machine.specs.Least.{countsOf};
 ghost use Rattle.machine.specs.Turn.{reasonNumber};
-ghost use Rattle.schedule.specs.Passes.{maxTurns, unknownAt, allTasks};
+ghost use Rattle.schedule.specs.Passes.{maxTurns, allTasks};
 ghost use Rattle.runner.specs.Trace.{traceOf};
 ghost use Rattle.runner.specs.Rise.{NoLess, riseOf};
 ghost use Rattle.runner.specs.Run as defs;
@@ -69,20 +69,6 @@ fn rises(before: [u32; 64], after: [u32; 64]) -> [u32; 64]
         q += 1;
     }
     all
-}
-
-// The place of the first turn that is no task; the schedule's length if there is none.
-fn unknown_at(n: usize, schedule: &[u8]) -> usize
-    ensures { λ r. ⌜ r ≡ unknownAt n (now (schedule .entry)) ⌝ }
-{
-    let mut i = 0;
-    while i < schedule.len() {
-        if n <= schedule[i] as usize {
-            return i;
-        }
-        i += 1;
-    }
-    i
 }
 
 // The smaller of two numbers.
@@ -241,7 +227,7 @@ pub fn run(state: State, schedule: &[u8], allowance: usize, log: &mut [u8]) -> R
     if 65536 < schedule.len() {
         return refused(state, 8, 0);
     }
-    let place = unknown_at(state.n as usize, schedule);
+    let place = schedule::unknown_at(state.n as usize, schedule);
     if place < schedule.len() {
         return refused(state, 9, place);
     }

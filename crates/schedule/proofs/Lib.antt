@@ -1,2 +1,3 @@
 -- What the proofs of several functions share.
 pub mod Walk
+pub mod Unknown

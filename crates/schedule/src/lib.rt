@@ -1,4 +1,4 @@
-// Lists of turns: their passes, and the first pass from a place. What each function answers is defined in specs/Passes.antt and
+// Lists of turns: the first that is no task, their passes, and the first pass from a place. What each function answers is defined in specs/Passes.antt and
 // specs/FirstPass.antt; the laws of both, and of the stretches that turns are cut into, stand in the files beside them.
 pub mod answer;
 
@@ -7,8 +7,22 @@ ghost use mathlib.Core.Path.{_≡_};
 ghost use mathlib.Core.Bool.{true};
 ghost use Prim.Native.Nat.{_+_, _*_, _≤_, min};
 ghost use lib.ListN.{length, drop};
-ghost use Rattle.schedule.specs.Passes.{passesOf, maxTurns, allTasks, countAnswer, passesAnswer, withPairs, pairsAfter};
+ghost use Rattle.schedule.specs.Passes.{passesOf, maxTurns, unknownAt, allTasks, countAnswer, passesAnswer, withPairs, pairsAfter};
 ghost use Rattle.schedule.specs.FirstPass.{firstPassOf};
+
+// The place of the first turn that is no task; the schedule's length if there is none.
+pub fn unknown_at(n: usize, schedule: &[u8]) -> usize
+    ensures { λ r. ⌜ r ≡ unknownAt n (now (schedule .entry)) ⌝ }
+{
+    let mut at = 0;
+    while at < schedule.len() {
+        if n <= schedule[at] as usize {
+            return at;
+        }
+        at += 1;
+    }
+    at
+}
 
 // How many passes a schedule for n tasks has; or 9 with the place of the first turn that is no task.
 fn count(n: usize, schedule: &[u8]) -> Passes

@@ -11,7 +11,7 @@ use Rattle.machine.specs.Fresh.{freshOf}
 use Rattle.machine.specs.Least.{least}
 use Rattle.runner.specs.Trace.{Trace, traceOf}
 use Rattle.runner.specs.Run.{movesIn, waitsIn}
-use Rattle.sheet_text.specs.Read.{Five, Reading, five, refused, readOf}
+use Rattle.reader.specs.Read.{Five, Reading, five, refused, readOf}
 
 -- "The columns are task number, final line, final count, moves, waits"; "every line ends with a line feed"
 unfoldable pub rowWith : ℕ → ℕ → ℕ → ℕ → ℕ → List ℕ

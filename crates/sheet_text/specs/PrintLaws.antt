@@ -25,7 +25,8 @@ use Rattle.runner.specs.Trace.{traceOf}
 use Rattle.runner.specs.Run.{movesIn, waitsIn}
 use Rattle.runner.specs.TraceLaws.{trace-keeps, trace-n}
 use Rattle.runner.specs.RunLaws.{moves-few, waits-few}
-use Rattle.sheet_text.specs.Print.{rowWith, rowOf, rowsBy, placeWord, tableWith, refusalOf}
+use Rattle.reader.specs.Read.{Reading, five, refused, saidOf}
+use Rattle.sheet_text.specs.Print.{rowWith, rowOf, rowsBy, placeWord, tableWith, refusalOf, printed}
 use Rattle.sheet_text.specs.Steps.{tableFrom}
 
 -- ---- the lines
@@ -40,6 +41,11 @@ pub refusal-plain : (reason place : ℕ) → reason ≢ 9 → refusalOf reason p
 unfolding refusalOf
 refusal-plain reason place ne =
     rw (ne-eqb reason 9 ne) (ap (λ (ws : List ℕ). ws ++ 10 ∷ []) (append-nil (refusedWord ++ spaced reason)))
+
+-- what is printed of a refused text
+pub refused-printed : (r : Reading) → saidOf r .reason ≢ 0 → printed r ≡ refusalOf (saidOf r .reason) (saidOf r .place)
+refused-printed (five f) ne = absurd (ne refl)
+refused-printed (refused reason place) ne = refl
 
 -- ---- how long the lines are
 

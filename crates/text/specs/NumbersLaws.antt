@@ -118,24 +118,6 @@ low-list xs h =
     (λ i l. List·getD-map low xs i 0 ∙ low-same (getD xs i 0) (h i (rw length-map at l)))
 
 -- the bytes of the first k numbers, and of those after them
-pub low-take : (k : ℕ) (xs ys : List ℕ) → take (min k (length xs)) (map low xs ++ ys) ≡ map low (take k xs)
-low-take zero xs ys = let e : min 0 (length xs) ≡ 0 = omega arith in rw e
-low-take (suc k) [] ys = let e : min (suc k) 0 ≡ 0 = omega arith in rw e
-low-take (suc k) (x ∷ xs) ys =
-    let e : min (suc k) (suc (length xs)) ≡ suc (min k (length xs)) = omega arith in
-    rw (e, low-take k xs ys)
-
-pub low-drop : (k : ℕ) (xs ys : List ℕ) → take (length xs - min k (length xs)) (drop (min k (length xs)) (map low xs ++ ys)) ≡ map low (drop k xs)
-low-drop zero xs ys =
-    let e : min 0 (length xs) ≡ 0 = omega arith in
-    let d : length xs - 0 ≡ length xs = omega arith in
-    rw (e, d) (take-at (map low xs) ys (length xs) (length-map xs low))
-low-drop (suc k) [] ys = let e : min (suc k) 0 ≡ 0 = omega arith in rw e
-low-drop (suc k) (x ∷ xs) ys =
-    let e : min (suc k) (suc (length xs)) ≡ suc (min k (length xs)) = omega arith in
-    let d : suc (length xs) - suc (min k (length xs)) ≡ length xs - min k (length xs) = omega arith in
-    rw (e, d) (low-drop k xs ys)
-
 pub low-first : (k : ℕ) (xs : List ℕ) → take k (map low xs) ≡ map low (take k xs)
 low-first zero xs = refl
 low-first (suc k) [] = refl

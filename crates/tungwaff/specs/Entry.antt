@@ -1,86 +1,88 @@
--- What the exported functions answer: each is a call of the library, and its enum is told by a reason, 0 if nothing was refused, and a
--- number.
+-- What the exported functions answer: each is a call of the library, and its answer is told by numbers. A reason is 0 where nothing was refused.
+use mathlib.Core.Bool.{Bool}
 use mathlib.Core.List.{List}
 use Prim.Native.Nat.{ℕ}
 use lib.Dec.{eqb}
 use lib.ListN.{length}
 use Rattle.bitset.specs.Choice.{pick}
-use Rattle.schedule.specs.declared.answer.Passes.{Passes}
-use Rattle.schedule.specs.declared.answer.Passes.the-variants as passes
-use Rattle.machine.specs.declared.State.{State}
-use Rattle.machine.specs.declared.Outcome.{Outcome}
-use Rattle.machine.specs.declared.Outcome.the-variants as outcome
-use Rattle.machine.specs.Fresh.{Inputs, inputsOf, freshOf}
-use Rattle.machine.specs.Turn.{turnOf, moveNumber, closedNumber, reasonNumber}
-use Rattle.machine.specs.Ready.{readyOf, readyReason, readyNumber}
-use Rattle.runner.specs.declared.Ending.{Ending}
-use Rattle.runner.specs.declared.Ending.the-variants.{Done, Spent, Stopped, Refused}
+use Rattle.machine.specs.declared.Turned.{Turned}
+use Rattle.machine.specs.declared.Ready.{Ready}
+use Rattle.machine.specs.declared.Ready.the-variants as ready
+use Rattle.machine.specs.Fresh.{Inputs, inputsOf, firstReason, freshOf}
+use Rattle.machine.specs.Turn.{refusedTurn, turnOf, reasonNumber}
+use Rattle.machine.specs.Ready.{readyOf}
 use Rattle.runner.specs.declared.Ran.{Ran}
-use Rattle.runner.specs.Run.{runOf, logAfter, endingReason}
-use Rattle.tungwaff.specs.declared.WholeRun.{WholeRun}
+use Rattle.runner.specs.Run.{refusedRun}
+use Rattle.rows.specs.Rows.{turnRoom, taskRoom, isRefused, listedOf, listedLog, turnRowsAfter, taskRowsAfter}
+use Rattle.snapshot.specs.Snapshot.{roomReason, savedTo, loadOf}
+use Rattle.tungwaff.specs.declared.Begun.{Begun}
 
 -- the inputs of a fresh state, from numbers
 abbrev pub inputsFrom : ℕ → ℕ → ℕ → List ℕ → List ℕ → List ℕ → Inputs
 inputsFrom kind n modulus parents starts works = inputsOf (record { kind = kind; n = n; modulus = modulus }) parents starts works
 
--- the place that an ending gives, or else the turns made
-abbrev pub endingNumber : Ending → ℕ → ℕ
-endingNumber Done turns = turns
-endingNumber Spent turns = turns
-endingNumber (Stopped k) turns = turns
-endingNumber (Refused k at) turns = at
+-- ---- a fresh state, saved to a list of numbers
 
--- what a run leaves, and what is left where the fresh state is refused, which runs nothing
-abbrev pub leftBy : Ran → WholeRun
-leftBy ran =
-    record {
-      state = ran .state;
-      reason = endingReason (ran .ending);
-      number = endingNumber (ran .ending) (ran .turns);
-      rounds = ran .rounds;
-    }
+-- a fresh state's reasons, then 10 for a short list
+abbrev pub freshInto : Inputs → List ℕ → ℕ
+freshInto i list = firstReason (freshOf i .reason) (roomReason list)
 
-abbrev pub leftUnrun : State → ℕ → WholeRun
-leftUnrun s reason = record { state = s; reason = reason; number = 0; rounds = 0 }
+-- the list after it; a refused call "writes to no buffer"
+unfoldable pub freshList : Inputs → List ℕ → List ℕ
+freshList i list = pick (eqb (freshOf i .reason) 0) (savedTo (freshOf i .state) list) list
 
--- the whole schedule is run from the fresh state
-unfoldable pub wholeRunOf : Inputs → List ℕ → List ℕ → WholeRun
-wholeRunOf i schedule log =
-    pick (eqb (freshOf i .reason) 0)
-    (leftBy (runOf (freshOf i .state) schedule (length schedule) log))
-    (leftUnrun (freshOf i .state) (freshOf i .reason))
+-- ---- runs
 
-unfoldable pub wholeRunLog : Inputs → List ℕ → List ℕ → List ℕ
-wholeRunLog i schedule log = pick (eqb (freshOf i .reason) 0) (logAfter (freshOf i .state) schedule (length schedule) log) log
+-- what a run begins with: a fresh state, or the state that a list keeps; with the reason that refused it
+abbrev pub freshly : Inputs → Begun
+freshly i = record { state = freshOf i .state; reason = freshOf i .reason }
 
--- 1 if a turn moved, 0 if it waited or was refused
-abbrev pub turnNumber : Outcome → ℕ
-turnNumber (outcome.Made how) = moveNumber how
-turnNumber (outcome.Refused k) = 0
+abbrev pub keptIn : List ℕ → Begun
+keptIn list = record { state = loadOf list .state; reason = loadOf list .reason }
 
--- 1 if a turn closed a round, 0 if it did not or was refused
-abbrev pub turnClosed : Outcome → ℕ
-turnClosed (outcome.Made how) = closedNumber how
-turnClosed (outcome.Refused k) = 0
+-- the run's answer; where there is no state to begin with, that of a refused run. `ok` says whether the list for its numbers has room.
+unfoldable pub ranFrom : Begun → List ℕ → ℕ → List ℕ → Bool → Ran
+ranFrom b schedule allowance log ok =
+    pick (eqb (b .reason) 0) (listedOf (b .state) schedule allowance log ok) (refusedRun (b .state) (b .reason) 0)
 
--- a turn of the task p from the state that the run has left; none is made where the run was refused or stopped
-unfoldable pub thenTurnReason : WholeRun → ℕ → ℕ
-thenTurnReason run p = pick (eqb (run .reason) 0) (reasonNumber (turnOf (run .state) p .outcome)) (run .reason)
+-- the log, and the list of the tasks' or of the turns' numbers, after it
+unfoldable pub logFrom : Begun → List ℕ → ℕ → List ℕ → Bool → List ℕ
+logFrom b schedule allowance log ok = pick (eqb (b .reason) 0) (listedLog (b .state) schedule allowance log ok) log
 
-unfoldable pub thenTurnNumber : WholeRun → ℕ → ℕ
-thenTurnNumber run p = pick (eqb (run .reason) 0) (turnNumber (turnOf (run .state) p .outcome)) (run .number)
+unfoldable pub tasksFrom : Begun → List ℕ → ℕ → List ℕ → List ℕ → List ℕ
+tasksFrom b schedule allowance log tasks = pick (eqb (b .reason) 0) (taskRowsAfter (b .state) schedule allowance log tasks) tasks
 
-unfoldable pub thenTurnClosed : WholeRun → ℕ → ℕ
-thenTurnClosed run p = pick (eqb (run .reason) 0) (turnClosed (turnOf (run .state) p .outcome)) 0
+unfoldable pub rowsFrom : Begun → List ℕ → ℕ → List ℕ → List ℕ → List ℕ
+rowsFrom b schedule allowance log rows = pick (eqb (b .reason) 0) (turnRowsAfter (b .state) schedule allowance log rows) rows
 
--- who can move in the state that the run has left; not asked where the run was refused or stopped
-unfoldable pub thenReadyReason : WholeRun → ℕ
-thenReadyReason run = pick (eqb (run .reason) 0) (readyReason (readyOf (run .state) .ready)) (run .reason)
+-- with a list for the tasks' numbers, and with one for the turns'
+abbrev pub tasksRan : Begun → List ℕ → ℕ → List ℕ → List ℕ → Ran
+tasksRan b schedule allowance log tasks = ranFrom b schedule allowance log (taskRoom (b .state) (length tasks))
 
-unfoldable pub thenReadyNumber : WholeRun → ℕ
-thenReadyNumber run = pick (eqb (run .reason) 0) (readyNumber (readyOf (run .state) .ready)) (run .number)
+abbrev pub tasksLog : Begun → List ℕ → ℕ → List ℕ → List ℕ → List ℕ
+tasksLog b schedule allowance log tasks = logFrom b schedule allowance log (taskRoom (b .state) (length tasks))
 
--- the number of passes, or the place of a refusal
-abbrev pub passesNumber : Passes → ℕ
-passesNumber (passes.Count k) = k
-passesNumber (passes.Refused k at) = at
+abbrev pub rowsRan : Begun → List ℕ → ℕ → List ℕ → List ℕ → Ran
+rowsRan b schedule allowance log rows = ranFrom b schedule allowance log (turnRoom schedule allowance (length rows))
+
+abbrev pub rowsLog : Begun → List ℕ → ℕ → List ℕ → List ℕ → List ℕ
+rowsLog b schedule allowance log rows = logFrom b schedule allowance log (turnRoom schedule allowance (length rows))
+
+-- the list that keeps the state, after the run: a run that was refused as a whole leaves it
+unfoldable pub keptAfter : Ran → List ℕ → List ℕ
+keptAfter ran list = pick (isRefused (ran .ending)) list (savedTo (ran .state) list)
+
+-- ---- a turn, and who is ready
+
+-- a turn of the task p; a state that was refused has none
+unfoldable pub turnedFrom : Begun → ℕ → Turned
+turnedFrom b p = pick (eqb (b .reason) 0) (turnOf (b .state) p) (refusedTurn (b .state) (b .reason))
+
+-- the list that keeps the state, after the turn; a refused one leaves it
+unfoldable pub turnList : List ℕ → ℕ → List ℕ
+turnList list p =
+    let turned = turnedFrom (keptIn list) p in
+    pick (eqb (reasonNumber (turned .outcome)) 0) (savedTo (turned .state) list) list
+
+unfoldable pub readyFrom : Begun → Ready
+readyFrom b = pick (eqb (b .reason) 0) (readyOf (b .state) .ready) (ready.Refused (b .reason))

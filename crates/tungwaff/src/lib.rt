@@ -1,63 +1,162 @@
-// The library for programs in C and Rust: numbers, byte slices and lent buffers only. What each function answers is defined in
-// specs/Entry.antt over the definitions of the crates below.
-mod numbers;
-
+// The library for programs in C and Rust: numbers, slices and lent buffers only. What each function answers is defined in specs/Entry.antt over
+// the definitions of the crates below. A state that a caller keeps between calls is a list of 64-bit numbers (`snapshot`).
+use machine::Outcome;
+use machine::Ready;
 use machine::Setup;
 use machine::State;
+use machine::Turned;
+use runner::Ending;
+use runner::Ran;
+use snapshot::load::load;
+use snapshot::save::save;
 ghost use mathlib.Core.Path.{_≡_};
 ghost use lib.ListN.{length};
-ghost use Rattle.schedule.specs.Passes.{passesAnswer, passesReason, pairsAfter};
-ghost use Rattle.machine.specs.Fresh.{inputsOf};
+ghost use Rattle.parents.specs.Shapes.{shapeOf, tableAfter};
+ghost use Rattle.schedule.specs.Passes.{passesAnswer, passesReason, passesCount, passesPlace, pairsAfter};
+ghost use Rattle.schedule.specs.FirstPass.{firstPassOf};
+ghost use Rattle.machine.specs.Turn.{reasonNumber};
+ghost use Rattle.machine.specs.Ready.{readyReason, readyNumber};
+ghost use Rattle.runner.specs.Run.{refusedRun, endingReason};
+ghost use Rattle.numbers.specs.Numbers.{endingPlace, turnNumber, turnClosed};
 ghost use Rattle.playback.specs.Playback.{playOf, verdictReason, verdictAgrees, verdictIndex};
+ghost use Rattle.bound.specs.Bound.{limitOf};
+ghost use Rattle.reader.specs.Read.{saidOf, parentsIn, turnsIn, readWithin};
 ghost use Rattle.sheet_text.specs.Print.{sheetOf, pageOf};
-ghost use Rattle.tungwaff.specs.Entry.{inputsFrom, wholeRunOf, wholeRunLog, thenTurnReason, thenTurnNumber, thenTurnClosed, thenReadyReason, thenReadyNumber, passesNumber};
+ghost use Rattle.tungwaff.specs.Entry as defs;
 
-// What the run of a whole schedule from a fresh state leaves: the state; the reason that refused the fresh state, the run or a turn, 0 if
-// nothing was refused; the turns made, for reason 9 the place of the first turn that is no task; and the rounds closed.
-struct WholeRun {
+// What a call begins with: a state, and the reason that refused it, or 0.
+struct Begun {
     state: State,
     reason: u8,
-    number: usize,
-    rounds: u32,
 }
 
-// Runs the whole schedule from a fresh state; one that is refused runs nothing.
-fn whole_run(
-    setup: Setup,
+// The fresh state.
+fn freshly(setup: Setup, parents: &[u8], starts: &[u8], works: &[u8]) -> Begun
+    ensures { λ r. ⌜ r ≡ defs.freshly (defs.inputsFrom (setup .kind) (setup .n) (setup .modulus) (now (parents .entry)) (now (starts .entry)) (now (works .entry))) ⌝ }
+{
+    let fresh = setup.fresh(parents, starts, works);
+    let state = fresh.state;
+    Begun {
+        state,
+        reason: fresh.reason,
+    }
+}
+
+// The state that a list keeps.
+fn kept_in(list: &[u64]) -> Begun
+    ensures { λ r. ⌜ r ≡ defs.keptIn (now (list .entry)) ⌝ }
+{
+    let loaded = load(list);
+    let state = loaded.state;
+    Begun {
+        state,
+        reason: loaded.reason,
+    }
+}
+
+// Writes a fresh state with these tables of parents, starts and work lengths to the list. Answers the reason that refused it, or 10 for a
+// short list; 0 if nothing was refused.
+#[no_mangle]
+pub extern "C" fn tungwaff_fresh(
+    kind: usize,
+    n: usize,
+    modulus: usize,
     parents: &[u8],
     starts: &[u8],
     works: &[u8],
-    schedule: &[u8],
-    log: &mut [u8],
-) -> WholeRun
-    ensures { λ r. ⌜ r ≡ wholeRunOf (inputsOf setup (now (parents .entry)) (now (starts .entry)) (now (works .entry))) (now (schedule .entry)) (now (log .entry)) ⌝ }
-    ensures { λ _. ⌜ now (log .exit) ≡ wholeRunLog (inputsOf setup (now (parents .entry)) (now (starts .entry)) (now (works .entry))) (now (schedule .entry)) (now (log .entry)) ⌝ }
+    list: &mut [u64],
+) -> u8
+    ensures { λ r. ⌜ r ≡ defs.freshInto (defs.inputsFrom kind n modulus (now (parents .entry)) (now (starts .entry)) (now (works .entry))) (now (list .entry)) ⌝ }
+    ensures { λ _. ⌜ now (list .exit) ≡ defs.freshList (defs.inputsFrom kind n modulus (now (parents .entry)) (now (starts .entry)) (now (works .entry))) (now (list .entry)) ⌝ }
 {
-    let fresh = setup.fresh(parents, starts, works);
-    let first = fresh.state;
-    let reason = fresh.reason;
+    let begun = freshly(Setup { kind, n, modulus }, parents, starts, works);
+    let reason = begun.reason;
     if reason != 0 {
-        return WholeRun {
-            state: first,
-            reason,
-            number: 0,
-            rounds: 0,
-        };
+        return reason;
     }
-    let ran = runner::run(first, schedule, schedule.len(), log);
-    let state = ran.state;
-    let ending = ran.ending;
-    WholeRun {
+    save(begun.state, list)
+}
+
+// The answer of a run that has no state to begin with.
+fn unrun(begun: Begun) -> Ran
+    ensures { λ r. ⌜ r ≡ refusedRun (begun .state) (begun .reason) 0 ⌝ }
+{
+    let state = begun.state;
+    Ran {
         state,
-        reason: numbers::ending_reason(ending),
-        number: numbers::ending_number(ending, ran.turns),
-        rounds: ran.rounds,
+        ending: Ending::Refused(begun.reason, 0),
+        turns: 0,
+        rounds: 0,
+        moves: [0u32; 64],
+        waits: [0u32; 64],
     }
 }
 
-// Runs the whole schedule from a fresh state with these tables of parents, starts and work lengths, and writes two bytes a turn to the log. Answers the reason that refused the fresh
-// state, the run or a turn; 0 if nothing was refused. The number is that of the turns made, for reason 9 the place of the first turn
-// that is no task; the rounds are those that the turns made have closed.
+// Runs the schedule, at most as many turns as the allowance, and writes two bytes a turn to the log and four numbers a task to the list.
+fn run_tasks(
+    begun: Begun,
+    schedule: &[u8],
+    allowance: usize,
+    log: &mut [u8],
+    tasks: &mut [u32],
+) -> Ran
+    ensures { λ r. ⌜ r ≡ defs.tasksRan begun (now (schedule .entry)) allowance (now (log .entry)) (now (tasks .entry)) ⌝ }
+    ensures { λ _. ⌜ now (log .exit) ≡ defs.tasksLog begun (now (schedule .entry)) allowance (now (log .entry)) (now (tasks .entry)) ⌝ }
+    ensures { λ _. ⌜ now (tasks .exit) ≡ defs.tasksFrom begun (now (schedule .entry)) allowance (now (log .entry)) (now (tasks .entry)) ⌝ }
+{
+    if begun.reason != 0 {
+        return unrun(begun);
+    }
+    rows::by_task(begun.state, schedule, allowance, log, tasks)
+}
+
+// Runs the schedule as `run_tasks` does, and writes six numbers a turn to the list.
+fn run_rows(
+    begun: Begun,
+    schedule: &[u8],
+    allowance: usize,
+    log: &mut [u8],
+    rows: &mut [u32],
+) -> Ran
+    ensures { λ r. ⌜ r ≡ defs.rowsRan begun (now (schedule .entry)) allowance (now (log .entry)) (now (rows .entry)) ⌝ }
+    ensures { λ _. ⌜ now (log .exit) ≡ defs.rowsLog begun (now (schedule .entry)) allowance (now (log .entry)) (now (rows .entry)) ⌝ }
+    ensures { λ _. ⌜ now (rows .exit) ≡ defs.rowsFrom begun (now (schedule .entry)) allowance (now (log .entry)) (now (rows .entry)) ⌝ }
+{
+    if begun.reason != 0 {
+        return unrun(begun);
+    }
+    rows::by_turn(begun.state, schedule, allowance, log, rows)
+}
+
+// Writes the state after a run to the list that keeps it. The list has room, since the state came from it; a refused run leaves it.
+fn keep(ran: Ran, list: &mut [u64])
+    ensures { λ _. ⌜ now (list .exit) ≡ defs.keptAfter ran (now (list .entry)) ⌝ }
+{
+    let ending = ran.ending;
+    if rows::refused(ending) {
+        return;
+    }
+    save(ran.state, list);
+}
+
+// Tells a run's answer: the turns made, the place of reason 9, else 0, the rounds closed, and the reason.
+fn tell(ran: Ran, turns: &mut usize, place: &mut usize, rounds: &mut u32) -> u8
+    ensures { λ r. ⌜ r ≡ endingReason (ran .ending) ⌝ }
+    ensures { λ _. ⌜ now (turns .exit) ≡ ran .turns ⌝ }
+    ensures { λ _. ⌜ now (place .exit) ≡ endingPlace (ran .ending) ⌝ }
+    ensures { λ _. ⌜ now (rounds .exit) ≡ ran .rounds ⌝ }
+{
+    let ending = ran.ending;
+    *turns = ran.turns;
+    *place = numbers::ending_place(ending);
+    *rounds = ran.rounds;
+    numbers::ending_reason(ending)
+}
+
+// Runs the schedule from a fresh state with these tables of parents, starts and work lengths, at most as many turns as the allowance. Writes two
+// bytes a turn to the log, and to `tasks` four numbers a task: its line and its count at the end, its moves and its waits. Answers the reason
+// that refused the fresh state, the run or a turn; 0 if nothing was refused. The turns are those made, the place is that of reason 9, else 0, and
+// the rounds are those that the turns closed.
 #[no_mangle]
 pub extern "C" fn tungwaff_run(
     kind: usize,
@@ -67,127 +166,183 @@ pub extern "C" fn tungwaff_run(
     starts: &[u8],
     works: &[u8],
     schedule: &[u8],
+    allowance: usize,
     log: &mut [u8],
-    number: &mut usize,
+    tasks: &mut [u32],
+    turns: &mut usize,
+    place: &mut usize,
     rounds: &mut u32,
 ) -> u8
-    ensures { λ r. ⌜ r ≡ wholeRunOf (inputsFrom kind n modulus (now (parents .entry)) (now (starts .entry)) (now (works .entry))) (now (schedule .entry)) (now (log .entry)) .reason ⌝ }
-    ensures { λ _. ⌜ now (number .exit) ≡ wholeRunOf (inputsFrom kind n modulus (now (parents .entry)) (now (starts .entry)) (now (works .entry))) (now (schedule .entry)) (now (log .entry)) .number ⌝ }
-    ensures { λ _. ⌜ now (rounds .exit) ≡ wholeRunOf (inputsFrom kind n modulus (now (parents .entry)) (now (starts .entry)) (now (works .entry))) (now (schedule .entry)) (now (log .entry)) .rounds ⌝ }
-    ensures { λ _. ⌜ now (log .exit) ≡ wholeRunLog (inputsFrom kind n modulus (now (parents .entry)) (now (starts .entry)) (now (works .entry))) (now (schedule .entry)) (now (log .entry)) ⌝ }
+    ensures { λ r. ⌜ r ≡ endingReason (defs.tasksRan (defs.freshly (defs.inputsFrom kind n modulus (now (parents .entry)) (now (starts .entry)) (now (works .entry)))) (now (schedule .entry)) allowance (now (log .entry)) (now (tasks .entry)) .ending) ⌝ }
+    ensures { λ _. ⌜ now (turns .exit) ≡ defs.tasksRan (defs.freshly (defs.inputsFrom kind n modulus (now (parents .entry)) (now (starts .entry)) (now (works .entry)))) (now (schedule .entry)) allowance (now (log .entry)) (now (tasks .entry)) .turns ⌝ }
+    ensures { λ _. ⌜ now (place .exit) ≡ endingPlace (defs.tasksRan (defs.freshly (defs.inputsFrom kind n modulus (now (parents .entry)) (now (starts .entry)) (now (works .entry)))) (now (schedule .entry)) allowance (now (log .entry)) (now (tasks .entry)) .ending) ⌝ }
+    ensures { λ _. ⌜ now (rounds .exit) ≡ defs.tasksRan (defs.freshly (defs.inputsFrom kind n modulus (now (parents .entry)) (now (starts .entry)) (now (works .entry)))) (now (schedule .entry)) allowance (now (log .entry)) (now (tasks .entry)) .rounds ⌝ }
+    ensures { λ _. ⌜ now (log .exit) ≡ defs.tasksLog (defs.freshly (defs.inputsFrom kind n modulus (now (parents .entry)) (now (starts .entry)) (now (works .entry)))) (now (schedule .entry)) allowance (now (log .entry)) (now (tasks .entry)) ⌝ }
+    ensures { λ _. ⌜ now (tasks .exit) ≡ defs.tasksFrom (defs.freshly (defs.inputsFrom kind n modulus (now (parents .entry)) (now (starts .entry)) (now (works .entry)))) (now (schedule .entry)) allowance (now (log .entry)) (now (tasks .entry)) ⌝ }
 {
-    let run = whole_run(
-        Setup { kind, n, modulus },
-        parents,
-        starts,
-        works,
-        schedule,
-        log,
-    );
-    *number = run.number;
-    *rounds = run.rounds;
-    run.reason
+    let begun = freshly(Setup { kind, n, modulus }, parents, starts, works);
+    let ran = run_tasks(begun, schedule, allowance, log, tasks);
+    tell(ran, turns, place, rounds)
 }
 
-// Runs the whole schedule as `tungwaff_run` does, and then makes a turn of the task. Answers the reason that refused the run, or else
-// the turn; 0 if nothing was refused. The number is that of the run where it was refused or stopped; else 1 if the turn moved, 0 if it
-// waited or was refused. `closed` is 1 if the turn closed a round, else 0, and 0 where it was not made.
+// Runs the schedule as `tungwaff_run` does, from the state that the list keeps, and writes the state after it to the list. Reason 10 is also that of
+// a list that is too short for a state, and 7 that of one whose numbers are no state in range.
+#[no_mangle]
+pub extern "C" fn tungwaff_resume(
+    list: &mut [u64],
+    schedule: &[u8],
+    allowance: usize,
+    log: &mut [u8],
+    tasks: &mut [u32],
+    turns: &mut usize,
+    place: &mut usize,
+    rounds: &mut u32,
+) -> u8
+    ensures { λ r. ⌜ r ≡ endingReason (defs.tasksRan (defs.keptIn (now (list .entry))) (now (schedule .entry)) allowance (now (log .entry)) (now (tasks .entry)) .ending) ⌝ }
+    ensures { λ _. ⌜ now (turns .exit) ≡ defs.tasksRan (defs.keptIn (now (list .entry))) (now (schedule .entry)) allowance (now (log .entry)) (now (tasks .entry)) .turns ⌝ }
+    ensures { λ _. ⌜ now (place .exit) ≡ endingPlace (defs.tasksRan (defs.keptIn (now (list .entry))) (now (schedule .entry)) allowance (now (log .entry)) (now (tasks .entry)) .ending) ⌝ }
+    ensures { λ _. ⌜ now (rounds .exit) ≡ defs.tasksRan (defs.keptIn (now (list .entry))) (now (schedule .entry)) allowance (now (log .entry)) (now (tasks .entry)) .rounds ⌝ }
+    ensures { λ _. ⌜ now (log .exit) ≡ defs.tasksLog (defs.keptIn (now (list .entry))) (now (schedule .entry)) allowance (now (log .entry)) (now (tasks .entry)) ⌝ }
+    ensures { λ _. ⌜ now (tasks .exit) ≡ defs.tasksFrom (defs.keptIn (now (list .entry))) (now (schedule .entry)) allowance (now (log .entry)) (now (tasks .entry)) ⌝ }
+    ensures { λ _. ⌜ now (list .exit) ≡ defs.keptAfter (defs.tasksRan (defs.keptIn (now (list .entry))) (now (schedule .entry)) allowance (now (log .entry)) (now (tasks .entry))) (now (list .entry)) ⌝ }
+{
+    let begun = kept_in(list);
+    let ran = run_tasks(begun, schedule, allowance, log, tasks);
+    keep(ran, list);
+    tell(ran, turns, place, rounds)
+}
+
+// Runs the schedule as `tungwaff_resume` does, and writes to `rows` six numbers for every turn made: its task, its line before, 1 if it moved or 0 if
+// it waited, the task's count after it, the least count after it, and 1 if it closed a round, else 0.
+#[no_mangle]
+pub extern "C" fn tungwaff_rows(
+    list: &mut [u64],
+    schedule: &[u8],
+    allowance: usize,
+    log: &mut [u8],
+    rows: &mut [u32],
+    turns: &mut usize,
+    place: &mut usize,
+    rounds: &mut u32,
+) -> u8
+    ensures { λ r. ⌜ r ≡ endingReason (defs.rowsRan (defs.keptIn (now (list .entry))) (now (schedule .entry)) allowance (now (log .entry)) (now (rows .entry)) .ending) ⌝ }
+    ensures { λ _. ⌜ now (turns .exit) ≡ defs.rowsRan (defs.keptIn (now (list .entry))) (now (schedule .entry)) allowance (now (log .entry)) (now (rows .entry)) .turns ⌝ }
+    ensures { λ _. ⌜ now (place .exit) ≡ endingPlace (defs.rowsRan (defs.keptIn (now (list .entry))) (now (schedule .entry)) allowance (now (log .entry)) (now (rows .entry)) .ending) ⌝ }
+    ensures { λ _. ⌜ now (rounds .exit) ≡ defs.rowsRan (defs.keptIn (now (list .entry))) (now (schedule .entry)) allowance (now (log .entry)) (now (rows .entry)) .rounds ⌝ }
+    ensures { λ _. ⌜ now (log .exit) ≡ defs.rowsLog (defs.keptIn (now (list .entry))) (now (schedule .entry)) allowance (now (log .entry)) (now (rows .entry)) ⌝ }
+    ensures { λ _. ⌜ now (rows .exit) ≡ defs.rowsFrom (defs.keptIn (now (list .entry))) (now (schedule .entry)) allowance (now (log .entry)) (now (rows .entry)) ⌝ }
+    ensures { λ _. ⌜ now (list .exit) ≡ defs.keptAfter (defs.rowsRan (defs.keptIn (now (list .entry))) (now (schedule .entry)) allowance (now (log .entry)) (now (rows .entry))) (now (list .entry)) ⌝ }
+{
+    let begun = kept_in(list);
+    let ran = run_rows(begun, schedule, allowance, log, rows);
+    keep(ran, list);
+    tell(ran, turns, place, rounds)
+}
+
+// A turn of the task; a state that was refused has none.
+fn turn_of(begun: Begun, task: usize) -> Turned
+    ensures { λ r. ⌜ r ≡ defs.turnedFrom begun task ⌝ }
+{
+    let reason = begun.reason;
+    let state = begun.state;
+    if reason != 0 {
+        return Turned {
+            state,
+            outcome: Outcome::Refused(reason),
+        };
+    }
+    state.turn(task)
+}
+
+// Who can move; in a state that was refused nobody is asked.
+fn ready_in(begun: Begun) -> Ready
+    ensures { λ r. ⌜ r ≡ defs.readyFrom begun ⌝ }
+{
+    let reason = begun.reason;
+    if reason != 0 {
+        return Ready::Refused(reason);
+    }
+    let state = begun.state;
+    let readied = state.ready();
+    readied.ready
+}
+
+// Makes a turn of the task from the state that the list keeps, and writes the state after it to the list. Answers the reason that refused the list
+// or the turn; 0 if nothing was refused. `moved` is 1 if the turn moved, 0 if it waited or was refused; `closed` is 1 if it closed a round, else 0.
 #[no_mangle]
 pub extern "C" fn tungwaff_turn(
-    kind: usize,
-    n: usize,
-    modulus: usize,
-    parents: &[u8],
-    starts: &[u8],
-    works: &[u8],
-    schedule: &[u8],
-    log: &mut [u8],
+    list: &mut [u64],
     task: usize,
-    number: &mut usize,
+    moved: &mut u8,
     closed: &mut u8,
 ) -> u8
-    ensures { λ r. ⌜ r ≡ thenTurnReason (wholeRunOf (inputsFrom kind n modulus (now (parents .entry)) (now (starts .entry)) (now (works .entry))) (now (schedule .entry)) (now (log .entry))) task ⌝ }
-    ensures { λ _. ⌜ now (number .exit) ≡ thenTurnNumber (wholeRunOf (inputsFrom kind n modulus (now (parents .entry)) (now (starts .entry)) (now (works .entry))) (now (schedule .entry)) (now (log .entry))) task ⌝ }
-    ensures { λ _. ⌜ now (closed .exit) ≡ thenTurnClosed (wholeRunOf (inputsFrom kind n modulus (now (parents .entry)) (now (starts .entry)) (now (works .entry))) (now (schedule .entry)) (now (log .entry))) task ⌝ }
-    ensures { λ _. ⌜ now (log .exit) ≡ wholeRunLog (inputsFrom kind n modulus (now (parents .entry)) (now (starts .entry)) (now (works .entry))) (now (schedule .entry)) (now (log .entry)) ⌝ }
+    ensures { λ r. ⌜ r ≡ reasonNumber (defs.turnedFrom (defs.keptIn (now (list .entry))) task .outcome) ⌝ }
+    ensures { λ _. ⌜ now (moved .exit) ≡ turnNumber (defs.turnedFrom (defs.keptIn (now (list .entry))) task .outcome) ⌝ }
+    ensures { λ _. ⌜ now (closed .exit) ≡ turnClosed (defs.turnedFrom (defs.keptIn (now (list .entry))) task .outcome) ⌝ }
+    ensures { λ _. ⌜ now (list .exit) ≡ defs.turnList (now (list .entry)) task ⌝ }
 {
-    let run = whole_run(
-        Setup { kind, n, modulus },
-        parents,
-        starts,
-        works,
-        schedule,
-        log,
-    );
-    let reason = run.reason;
-    if reason != 0 {
-        *number = run.number;
-        *closed = 0;
-        return reason;
-    }
-    let state = run.state;
-    let turned = state.turn(task);
+    let begun = kept_in(list);
+    let turned = turn_of(begun, task);
     let outcome = turned.outcome;
-    *number = numbers::turn_number(outcome);
+    *moved = numbers::turn_number(outcome);
     *closed = numbers::turn_closed(outcome);
-    numbers::turn_reason(outcome)
+    let reason = numbers::turn_reason(outcome);
+    if reason == 0 {
+        save(turned.state, list);
+    }
+    reason
 }
 
-// Runs the whole schedule as `tungwaff_run` does, and then asks who can move. Answers the reason that refused the run, or else the
-// question; 0 if nothing was refused. The number is that of the run where it was refused or stopped; else the least task that can move,
-// 64 if nobody can.
+// Asks who can move in the state that the list keeps. Answers the reason that refused it; 0 if nothing was refused. `task` is the least task that
+// can move, 64 if nobody can, and 0 where it was refused.
 #[no_mangle]
-pub extern "C" fn tungwaff_ready(
-    kind: usize,
-    n: usize,
-    modulus: usize,
-    parents: &[u8],
-    starts: &[u8],
-    works: &[u8],
-    schedule: &[u8],
-    log: &mut [u8],
-    number: &mut usize,
-) -> u8
-    ensures { λ r. ⌜ r ≡ thenReadyReason (wholeRunOf (inputsFrom kind n modulus (now (parents .entry)) (now (starts .entry)) (now (works .entry))) (now (schedule .entry)) (now (log .entry))) ⌝ }
-    ensures { λ _. ⌜ now (number .exit) ≡ thenReadyNumber (wholeRunOf (inputsFrom kind n modulus (now (parents .entry)) (now (starts .entry)) (now (works .entry))) (now (schedule .entry)) (now (log .entry))) ⌝ }
-    ensures { λ _. ⌜ now (log .exit) ≡ wholeRunLog (inputsFrom kind n modulus (now (parents .entry)) (now (starts .entry)) (now (works .entry))) (now (schedule .entry)) (now (log .entry)) ⌝ }
+pub extern "C" fn tungwaff_ready(list: &[u64], task: &mut usize) -> u8
+    ensures { λ r. ⌜ r ≡ readyReason (defs.readyFrom (defs.keptIn (now (list .entry)))) ⌝ }
+    ensures { λ _. ⌜ now (task .exit) ≡ readyNumber (defs.readyFrom (defs.keptIn (now (list .entry)))) ⌝ }
 {
-    let run = whole_run(
-        Setup { kind, n, modulus },
-        parents,
-        starts,
-        works,
-        schedule,
-        log,
-    );
-    let reason = run.reason;
-    if reason != 0 {
-        *number = run.number;
-        return reason;
-    }
-    let state = run.state;
-    let readied = state.ready();
-    let ready = readied.ready;
-    *number = numbers::ready_number(ready);
+    let ready = ready_in(kept_in(list));
+    *task = numbers::ready_number(ready);
     numbers::ready_reason(ready)
 }
 
 // Writes the pairs of offset and length of a schedule's passes. Answers the reason that refused the call, 0 if it was not refused. The
-// number is that of the passes, for reason 9 the place of the first turn that is no task, else 0.
+// count is that of the passes, and the place that of reason 9, else 0.
 #[no_mangle]
 pub extern "C" fn tungwaff_passes(
     n: usize,
     schedule: &[u8],
     pairs: &mut [u32],
-    number: &mut usize,
+    count: &mut usize,
+    place: &mut usize,
 ) -> u8
     ensures { λ r. ⌜ r ≡ passesReason (passesAnswer n (now (schedule .entry)) (length (now (pairs .entry)))) ⌝ }
-    ensures { λ _. ⌜ now (number .exit) ≡ passesNumber (passesAnswer n (now (schedule .entry)) (length (now (pairs .entry)))) ⌝ }
+    ensures { λ _. ⌜ now (count .exit) ≡ passesCount (passesAnswer n (now (schedule .entry)) (length (now (pairs .entry)))) ⌝ }
+    ensures { λ _. ⌜ now (place .exit) ≡ passesPlace (passesAnswer n (now (schedule .entry)) (length (now (pairs .entry)))) ⌝ }
     ensures { λ _. ⌜ now (pairs .exit) ≡ pairsAfter n (now (schedule .entry)) (now (pairs .entry)) ⌝ }
 {
     let answer = schedule::passes(n, schedule, pairs);
-    *number = numbers::passes_number(answer);
+    *count = numbers::passes_count(answer);
+    *place = numbers::passes_place(answer);
     numbers::passes_reason(answer)
+}
+
+// The length of the first whole pass that begins at the place; 0 where there is none.
+#[no_mangle]
+pub extern "C" fn tungwaff_first_pass(n: usize, schedule: &[u8], place: usize) -> usize
+    ensures { λ r. ⌜ r ≡ length (firstPassOf n place (now (schedule .entry))) ⌝ }
+{
+    let pass = schedule::first_pass(schedule, n, place);
+    pass.len()
+}
+
+// Writes a shape's table of parents. Answers the reason that refused the call, 0 if it was not refused.
+#[no_mangle]
+pub extern "C" fn tungwaff_shape(shape: usize, n: usize, table: &mut [u8]) -> u8
+    ensures { λ r. ⌜ r ≡ shapeOf shape n (length (now (table .entry))) ⌝ }
+    ensures { λ _. ⌜ now (table .exit) ≡ tableAfter shape n (now (table .entry)) ⌝ }
+{
+    let shaped = parents::shape(shape, n, table);
+    numbers::shape_reason(shaped)
 }
 
 // Plays a trace from a fresh state with these tables of parents, starts and work lengths. Answers the reason that refused it, 0 if it was not refused. `agrees` is 1
@@ -204,15 +359,60 @@ pub extern "C" fn tungwaff_play(
     agrees: &mut u8,
     index: &mut usize,
 ) -> u8
-    ensures { λ r. ⌜ r ≡ verdictReason (playOf (inputsFrom kind n modulus (now (parents .entry)) (now (starts .entry)) (now (works .entry))) (now (trace .entry)) .verdict) ⌝ }
-    ensures { λ _. ⌜ now (agrees .exit) ≡ verdictAgrees (playOf (inputsFrom kind n modulus (now (parents .entry)) (now (starts .entry)) (now (works .entry))) (now (trace .entry)) .verdict) ⌝ }
-    ensures { λ _. ⌜ now (index .exit) ≡ verdictIndex (playOf (inputsFrom kind n modulus (now (parents .entry)) (now (starts .entry)) (now (works .entry))) (now (trace .entry)) .verdict) ⌝ }
+    ensures { λ r. ⌜ r ≡ verdictReason (playOf (defs.inputsFrom kind n modulus (now (parents .entry)) (now (starts .entry)) (now (works .entry))) (now (trace .entry)) .verdict) ⌝ }
+    ensures { λ _. ⌜ now (agrees .exit) ≡ verdictAgrees (playOf (defs.inputsFrom kind n modulus (now (parents .entry)) (now (starts .entry)) (now (works .entry))) (now (trace .entry)) .verdict) ⌝ }
+    ensures { λ _. ⌜ now (index .exit) ≡ verdictIndex (playOf (defs.inputsFrom kind n modulus (now (parents .entry)) (now (starts .entry)) (now (works .entry))) (now (trace .entry)) .verdict) ⌝ }
 {
     let played = playback::play(Setup { kind, n, modulus }, parents, starts, works, trace);
     let verdict = played.verdict;
     *agrees = numbers::verdict_agrees(verdict);
     *index = numbers::verdict_index(verdict);
     numbers::verdict_reason(verdict)
+}
+
+// The passes that demand 3 promises to raise the least count. Answers the reason that refused the call, 0 if it was not refused.
+#[no_mangle]
+pub extern "C" fn tungwaff_limit(kind: usize, n: usize, works: &[u8], passes: &mut usize) -> u8
+    ensures { λ r. ⌜ r ≡ limitOf kind n (now (works .entry)) .reason ⌝ }
+    ensures { λ _. ⌜ now (passes .exit) ≡ limitOf kind n (now (works .entry)) .passes ⌝ }
+{
+    let promised = bound::limit(kind, n, works);
+    *passes = promised.passes;
+    promised.reason
+}
+
+// What the sheet program reads of a text: parents and schedule go to the first bytes of the buffers, and `entries` and `turns` say how many they are. Answers the
+// reason that refused it, 0 if it was not refused; the place is that of reason 9, else 0.
+#[no_mangle]
+pub extern "C" fn tungwaff_read(
+    text: &[u8],
+    parents: &mut [u8],
+    schedule: &mut [u8],
+    kind: &mut usize,
+    n: &mut usize,
+    modulus: &mut usize,
+    entries: &mut usize,
+    turns: &mut usize,
+    place: &mut usize,
+) -> u8
+    ensures { λ r. ⌜ r ≡ saidOf (readWithin (now (text .entry)) (length (now (parents .entry))) (length (now (schedule .entry)))) .reason ⌝ }
+    ensures { λ _. ⌜ now (kind .exit) ≡ saidOf (readWithin (now (text .entry)) (length (now (parents .entry))) (length (now (schedule .entry)))) .kind ⌝ }
+    ensures { λ _. ⌜ now (n .exit) ≡ saidOf (readWithin (now (text .entry)) (length (now (parents .entry))) (length (now (schedule .entry)))) .n ⌝ }
+    ensures { λ _. ⌜ now (modulus .exit) ≡ saidOf (readWithin (now (text .entry)) (length (now (parents .entry))) (length (now (schedule .entry)))) .modulus ⌝ }
+    ensures { λ _. ⌜ now (entries .exit) ≡ saidOf (readWithin (now (text .entry)) (length (now (parents .entry))) (length (now (schedule .entry)))) .parents ⌝ }
+    ensures { λ _. ⌜ now (turns .exit) ≡ saidOf (readWithin (now (text .entry)) (length (now (parents .entry))) (length (now (schedule .entry)))) .turns ⌝ }
+    ensures { λ _. ⌜ now (place .exit) ≡ saidOf (readWithin (now (text .entry)) (length (now (parents .entry))) (length (now (schedule .entry)))) .place ⌝ }
+    ensures { λ _. ⌜ now (parents .exit) ≡ parentsIn (readWithin (now (text .entry)) (length (now (parents .entry))) (length (now (schedule .entry)))) (now (parents .entry)) ⌝ }
+    ensures { λ _. ⌜ now (schedule .exit) ≡ turnsIn (readWithin (now (text .entry)) (length (now (parents .entry))) (length (now (schedule .entry)))) (now (schedule .entry)) ⌝ }
+{
+    let said = reader::read(text, parents, schedule);
+    *kind = said.kind;
+    *n = said.n;
+    *modulus = said.modulus;
+    *entries = said.parents;
+    *turns = said.turns;
+    *place = said.place;
+    said.reason
 }
 
 // Prints the sheet of a text to the page, with zeros after it, and answers how many bytes it has.

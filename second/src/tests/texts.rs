@@ -469,8 +469,8 @@ fn longest_requests() {
 
 /// What the replay writes for an input.
 fn served(input: &[u8]) -> String {
-    let mut output = Vec::new();
-    assert!(serve::answer(input, &mut output).is_ok());
+    let (mut replay, mut output) = (Replay::default(), Vec::new());
+    assert!(serve::answer(input, &mut output, |line| replay.answer(line)).is_ok());
     String::from_utf8(output).unwrap_or_default()
 }
 

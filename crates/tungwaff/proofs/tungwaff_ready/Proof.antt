@@ -1,29 +1,19 @@
--- `tungwaff_ready` meets its contract: what the whole run leaves, or what ready has answered after it.
+-- `tungwaff_ready` meets its contract.
 use borrow.Author.Needs.{needs}
-use borrow.Author.Tests.{ne-eqb, eq-eqb}
-use Rattle.tungwaff.specs.Entry.{thenReadyReason, thenReadyNumber}
+use mathlib.Core.Path.{_≡_, ap, _∙_}
+use Rattle.machine.specs.Ready.{readyReason, readyNumber}
+use Rattle.tungwaff.specs.Entry.{keptIn, readyFrom}
 use Rattle.tungwaff.proofs.tungwaff_ready.Statement.{statement}
 use Rattle.tungwaff.proofs.tungwaff_ready.Tie as tie
 
-returns : tie.Need-returns
-unfolding thenReadyReason thenReadyNumber
-returns c =
-    let r = c .before .before .before .whole-run in
-    let o = ne-eqb (r .result .reason) 0 (c .if1 .taken) in
-    (rw (← r .ensures .0, o), (rw (← r .ensures .0, o), r .ensures .1))
+told : (c : tie.After-ready-in) → c .ready-in .result ≡ readyFrom (keptIn (c .before .before .before .args .list .now))
+told c = c .ready-in .ensures ∙ ap readyFrom (c .before .kept-in .ensures)
 
-returns-2 : tie.Need-returns-2
-unfolding thenReadyReason thenReadyNumber
-returns-2 c =
-    let q = c .before .before .ready in
-    let g = c .before .before .before .before in
-    let r = g .before .before .before .whole-run in
-    let o = eq-eqb (r .result .reason) 0 (g .if1 .left) in (
-      rw (← r .ensures .0, o, ← q .ensures) (c .ready-reason .ensures),
-      (rw (← r .ensures .0, o, ← q .ensures) (c .before .ready-number .ensures), r .ensures .1),
-    )
+returns : tie.Need-returns
+returns c =
+    let k = c .before in
+    let r = k .before in
+    (c .ready-reason .ensures ∙ ap readyReason (told r), k .ready-number .ensures ∙ ap readyNumber (told r))
 
 pub tungwaff-ready-spec : {M : Type 1} → statement M
-tungwaff-ready-spec =
-    tie.close
-    (tie.spec (λ c κs. search needs) (λ c. search needs) returns (λ c κs. search needs) (λ c κs. search needs) (λ c κs. search needs) (λ c. search needs) returns-2)
+tungwaff-ready-spec = tie.close (tie.spec (λ c κs. search needs) (λ c κs. search needs) (λ c κs. search needs) (λ c κs. search needs) returns)

@@ -1,30 +1,21 @@
 -- `machine::Setup::fresh` meets its contract, refused and accepted.
 use borrow.Author.Needs.{needs}
-use mathlib.Core.Path.{_≡_, refl, sym, _∙_}
+use mathlib.Core.Path.{_≡_, sym, _∙_}
 use mathlib.Core.Bool.{Bool, true, false, _&&_, and-eq-true-iff}
-use mathlib.Core.List.{List}
 use Prim.Native.Nat.{ℕ, _≤_}
 use native.Mathlib.Omega.{arith}
 use lib.Dec.{eqb, leb}
-use lib.ListN.{length}
 use borrow.Author.Tests.{ne-eqb, eqb-true, leb-true}
 use Rattle.bitset.specs.Choice.{pick}
-use Rattle.parents.specs.Parents.{checkOf}
-use Rattle.parents.specs.ParentsLaws.{accepted}
 use Rattle.machine.specs.Fresh.{Inputs, inputsOf, freshOf}
-use Rattle.machine.specs.FreshLaws.{Accepted, accepted-inputs}
+use Rattle.machine.specs.FreshLaws.{Accepted, accepted-inputs, parents-few}
 use Rattle.machine.proofs.Setup.fresh.Statement.{statement}
 use Rattle.machine.proofs.Setup.fresh.Tie as tie
 
--- a modulus and a table that are accepted fit the state's fields
+-- a modulus that is accepted fits the state's field
 modulus-fits : (b : Bool) (r : ℕ) → pick b (leb 3 r && leb r 255) (eqb r 0) ≡ true → r ≤ 255
 modulus-fits true r e = leb-true r 255 (and-eq-true-iff (leb 3 r) (leb r 255) .0 e .1)
 modulus-fits false r e = omega (arith, eqb-true r 0 e)
-
-parents-fit : (b z : Bool) (n : ℕ) (parents : List ℕ) → n ≤ 64 → eqb (length parents) 0 ≡ z → pick b (checkOf parents n) (pick z 0 5) ≡ 0 → length parents ≤ 64
-parents-fit true z n parents h ez e = omega (arith, accepted parents n e .long)
-parents-fit false true n parents h ez e = omega (arith, eqb-true (length parents) 0 ez)
-parents-fit false false n parents h ez e = absurd (omega arith)
 
 -- ---- a call that is accepted, and what fits its state's fields
 
@@ -49,7 +40,7 @@ unfolding freshOf
 returns c = rw (← c .before .before .reason .ensures, ne-eqb _ 0 (c .before .if1 .taken), c .zero .ensures)
 
 padded-requires : tie.Need-padded-requires
-padded-requires c κs = parents-fit (eqb (inputs c .kind) 3) _ (inputs c .n) (inputs c .parents) (accepts c .few) refl (accepts c .parents)
+padded-requires c κs = parents-few (inputs c) (accepts c)
 
 fresh-tasks-requires : tie.Need-fresh-tasks-requires
 fresh-tasks-requires c κs = accepts (c .before .before) .few

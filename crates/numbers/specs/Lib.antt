@@ -1,0 +1,2 @@
+-- Numbers of answers (`Numbers`).
+pub mod Numbers

@@ -1,0 +1,62 @@
+-- `tungwaff_rows` meets its contract: what is told of the run, and what it has written.
+use borrow.Author.Needs.{needs}
+use mathlib.Core.Path.{_≡_, ap, _∙_}
+use mathlib.Core.List.{List}
+use Prim.Native.Nat.{ℕ}
+use Rattle.runner.specs.declared.Ran.{Ran}
+use Rattle.runner.specs.Run.{endingReason}
+use Rattle.numbers.specs.Numbers.{endingPlace}
+use Rattle.tungwaff.specs.declared.Begun.{Begun}
+use Rattle.tungwaff.specs.Entry.{keptIn, rowsFrom, rowsRan, rowsLog, keptAfter}
+use Rattle.tungwaff.proofs.tungwaff_rows.Statement.{statement}
+use Rattle.tungwaff.proofs.tungwaff_rows.Tie as tie
+
+module _ (c : tie.After-run-rows) where
+  abbrev beginning : tie.After-kept-in
+  beginning = c .before .before .before
+
+  abbrev start : tie.Start
+  start = beginning .before .before .before .before .before .before
+
+  abbrev begun : Begun
+  begun = keptIn (start .args .list .now)
+
+  -- the run from a state, what it logs, and what it lists
+  abbrev run : Begun → Ran
+  run b = let a = start .args in rowsRan b (a .schedule .now) (a .allowance) (a .log .now) (a .rows .now)
+
+  abbrev log : Begun → List ℕ
+  log b = let a = start .args in rowsLog b (a .schedule .now) (a .allowance) (a .log .now) (a .rows .now)
+
+  abbrev list : Begun → List ℕ
+  list b = let a = start .args in rowsFrom b (a .schedule .now) (a .allowance) (a .log .now) (a .rows .now)
+
+  ran : c .run-rows .result ≡ run begun
+  ran = c .run-rows .ensures .0 ∙ ap run (beginning .kept-in .ensures)
+
+  logged : c .run-rows .last .1 .1 .1 .0 ≡ log begun
+  logged = c .run-rows .ensures .1 .0 ∙ ap log (beginning .kept-in .ensures)
+
+  listed : c .run-rows .last .1 .1 .1 .1 .0 ≡ list begun
+  listed = c .run-rows .ensures .1 .1 ∙ ap list (beginning .kept-in .ensures)
+
+returns : tie.Need-returns
+returns c =
+    let k = c .before .before .before .before .before .before in
+    let r = k .before .before .before .before .before .before in
+    let e = c .tell .ensures in (
+      e .0 ∙ ap (λ (x : Ran). endingReason (x .ending)) (ran r),
+      (
+        e .1 .0 ∙ ap (λ (x : Ran). x .turns) (ran r),
+        (
+          e .1 .1 .0 ∙ ap (λ (x : Ran). endingPlace (x .ending)) (ran r),
+          (
+            e .1 .1 .1 ∙ ap (λ (x : Ran). x .rounds) (ran r),
+            (logged r, (listed r, k .keep .ensures ∙ ap (λ (x : Ran). keptAfter x (start r .args .list .now)) (ran r))),
+          ),
+        ),
+      ),
+    )
+
+pub tungwaff-rows-spec : {M : Type 1} → statement M
+tungwaff-rows-spec = tie.close (tie.spec (λ c κs. search needs) (λ c κs. search needs) (λ c κs. search needs) (λ c κs. search needs) (λ c. search needs) (λ c. search needs) (λ c. search needs) returns)
