@@ -84,6 +84,16 @@ stands s (called t r c) = go (stands t r)
     go (own k) = own (known-led t (after t c) (counted t c) (leads-call t c) k)
     go (carried t₁ pair) = carried (after t₁ c) (call-same pair c .pair)
 
+-- what every fresh state has and every turn keeps, a reached state has
+module _ (P : State → Type 0) (first : (i : Inputs) → freshReason i ≡ 0 → P (freshState i)) (next : (s : State) (p : ℕ) → P s → P (turnOf s p .state)) where
+  turns-keep : (s : State) (ts : List ℕ) → P s → P (afterTurns s ts)
+  turns-keep s [] h = h
+  turns-keep s (p ∷ ts) h = turns-keep (turnOf s p .state) ts (next s p h)
+
+  pub reached-by : (s : State) → Reached s → P s
+  reached-by s (fresh i e) = subst P (sym (fresh-accepted i e)) (first i e)
+  reached-by s (called t r c) = subst P (leads-call t c .to) (turns-keep t (counted t c) (reached-by t r))
+
 -- ---- what follows for a reached state
 
 -- it is in range

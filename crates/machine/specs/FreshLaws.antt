@@ -3,9 +3,10 @@ use mathlib.Core.Path.{_≡_, refl, sym, ap, _∙_, subst}
 use mathlib.Core.Bool.{Bool, true, false, _&&_, _||_, and-eq-true-iff, or-true}
 use mathlib.Core.List.{List, [], _∷_, map}
 use Prim.Native.Nat.{ℕ, zero, suc, _+_, _-_, _≤_, _<_}
+use native.Mathlib.Decide.{decLt}
 use native.Mathlib.Omega.{arith}
 use lib.Dec.{eqb, leb, ltb}
-use lib.ListN.{length, getD, drop, replicate, getD-replicate, length-replicate, length-map, List·getD-append, List·getD-map}
+use lib.ListN.{length, getD, drop, replicate, getD-replicate, length-replicate, length-append, length-map, List·getD-append, List·getD-map}
 use lib.Seq.{getD-append-add, take-at, drop-at, ext-getD}
 use borrow.Author.Tests.{eq-eqb, ne-eqb, lt-ltb, ltb-true, le-leb, leb-true, eqb-true, eqb-false}
 use Rattle.bitset.specs.Choice.{pick}
@@ -123,10 +124,12 @@ works-given n (x ∷ xs) e =
     (λ _ z. absurd (omega arith))
     (rw (ne-eqb (length (x ∷ xs)) 0 (λ z. absurd (omega arith))) at e)
 
-work-at : (works : List ℕ) (q : ℕ) → allWork works ≡ true → 1 ≤ workOf works q
+work-at : (works : List ℕ) (q : ℕ) → allWork works ≡ true → (1 ≤ workOf works q) × (workOf works q ≤ 255)
 unfolding allWork
-work-at [] q e = omega arith
-work-at (x ∷ xs) zero e = leb-true 1 x (and-eq-true-iff (leb 1 x) (leb x 255) .0 (and-eq-true-iff (isWork x) (allWork xs) .0 e .0) .0)
+work-at [] q e = (omega arith, omega arith)
+work-at (x ∷ xs) zero e =
+    let both = and-eq-true-iff (leb 1 x) (leb x 255) .0 (and-eq-true-iff (isWork x) (allWork xs) .0 e .0) in
+    (leb-true 1 x (both .0), leb-true x 255 (both .1))
 work-at (x ∷ xs) (suc q) e = work-at xs q (and-eq-true-iff (isWork x) (allWork xs) .0 e .1)
 
 fresh-range : (i : Inputs) (q : ℕ) → Accepted i → TaskRange (freshState i) q (freshTask i q)
@@ -143,7 +146,7 @@ fresh-range i q a =
       toggle = field-zero (eqb (i .kind) 2) 2 (λ _. omega arith);
       flag = field-zero (eqb (i .kind) 3) 2 (λ _. omega arith);
       start = start-ok (i .kind) (i .n) (i .starts) q (a .some) (a .starts);
-      left-from = work-at (i .works) q (works-given (i .n) (i .works) (a .works));
+      left-from = work-at (i .works) q (works-given (i .n) (i .works) (a .works)) .0;
       left-to = omega arith;
       own = by-test (λ b. b ≡ true) (eqb (i .kind) 4) (λ k. rw k) (λ k. rw k);
     }
@@ -251,7 +254,7 @@ starts-below kind n [] q some e = some
 starts-below kind n (x ∷ xs) q some e = below-at n (x ∷ xs) q some (starts-given kind n x xs e .1)
 
 -- and so is a parent
-parents-below : (kind n : ℕ) (parents : List ℕ) (q : ℕ) → 1 ≤ n → parentsReason kind n parents ≡ 0 → q < length parents → getD parents q 0 < n
+pub parents-below : (kind n : ℕ) (parents : List ℕ) (q : ℕ) → 1 ≤ n → parentsReason kind n parents ≡ 0 → q < length parents → getD parents q 0 < n
 parents-below kind n parents q some e l =
     by-test (λ r. r ≡ 0 → getD parents q 0 < n) (eqb kind 3) (λ _ t. entries-below parents n q t l)
     (λ _ t. absurd (omega (arith, rw (ne-eqb (length parents) 0 (λ z. omega arith)) at t))) e
@@ -335,3 +338,31 @@ pub ones-fresh : (i : Inputs) → freshOf (withTable i (replicate (i .n) 1)) ≡
 unfolding freshOf freshReason
 ones-fresh i =
     rw (ones-reason (i .n), table-same (i .n) (freshTask (withTable i (replicate (i .n) 1))) (freshTask (withTable i [])) (λ q _. rw (equal-at 1 (i .n) q)))
+
+-- ---- what the types of a state's fields ensure, of a fresh state
+
+zero-entry : (n q : ℕ) → getD (replicate {A = ℕ} n 0) q 0 ≡ 0
+zero-entry zero q = refl
+zero-entry (suc n) zero = refl
+zero-entry (suc n) (suc q) = zero-entry n q
+
+-- its work lengths and its parents are bytes
+pub fresh-bytes : (i : Inputs) → Accepted i → (q : ℕ) → (q < i .n → taskAt (freshState i) q .work ≤ 255) × (getD (freshState i .parents) q 0 ≤ 255)
+fresh-bytes i a q = (
+  λ h. rw (fresh-at (i .n) q (freshTask i) h) (work-at (i .works) q (works-given (i .n) (i .works) (a .works)) .1),
+  go (decLt q (length (i .parents))),
+)
+  where
+    go : Dec (q < length (i .parents)) → getD (padded (i .parents)) q 0 ≤ 255
+    go (yes h) =
+        omega (arith, List·getD-append (i .parents) (replicate (64 - length (i .parents)) 0) 0 q h, parents-below (i .kind) (i .n) (i .parents) q (a .some) (a .parents) h, a .few)
+    go (no h) =
+        let past : q ≡ length (i .parents) + (q - length (i .parents)) = omega arith in
+        omega (arith, ap (λ (k : ℕ). getD (padded (i .parents)) k 0) past, getD-append-add (i .parents) (replicate (64 - length (i .parents)) 0) (q - length (i .parents)) 0, zero-entry (64 - length (i .parents)) (q - length (i .parents)))
+
+-- how many parents and tasks it has
+pub fresh-lengths : (i : Inputs) → Accepted i → (length (freshState i .parents) ≡ 64) × (length (freshState i .tasks) ≡ 64)
+fresh-lengths i a = (
+  omega (arith, length-append (i .parents) (replicate {A = ℕ} (64 - length (i .parents)) 0), length-replicate {A = ℕ} (64 - length (i .parents)) 0, parents-few i a),
+  omega (arith, length-append (table (i .n) (freshTask i)) (replicate (64 - i .n) zeroTask), length-table (i .n) (freshTask i), length-replicate (64 - i .n) zeroTask, a .few),
+)

@@ -191,6 +191,58 @@ valid s r =
         )
 
 -- what refuses a state is no 9, so that a run's answer to it has no place
+-- what taskZero tests
+pub record Zeros (t : Task) : Type 0 where
+  pub line : t .line ≡ 0
+  pub count : t .count ≡ 0
+  pub tag : t .tag ≡ 0
+  pub old : t .old ≡ 0
+  pub list : t .list ≡ 0
+  pub looked : t .looked ≡ 0
+  pub aim : t .aim ≡ 0
+  pub toggle : t .toggle ≡ 0
+  pub flag : t .flag ≡ 0
+  pub start : t .start ≡ 0
+  pub work : t .work ≡ 0
+  pub left : t .left ≡ 0
+  pub own : t .own ≡ 0
+
+pub zeros : (t : Task) → taskZero t ≡ true → Zeros t
+unfolding taskZero
+zeros t e =
+    let e12 = and-eq-true-iff _ (eqb (t .own) 0) .0 e in
+    let e11 = and-eq-true-iff _ (eqb (t .left) 0) .0 (e12 .0) in
+    let e10 = and-eq-true-iff _ (eqb (t .work) 0) .0 (e11 .0) in
+    let e9 = and-eq-true-iff _ (eqb (t .start) 0) .0 (e10 .0) in
+    let e8 = and-eq-true-iff _ (eqb (t .flag) 0) .0 (e9 .0) in
+    let e7 = and-eq-true-iff _ (eqb (t .toggle) 0) .0 (e8 .0) in
+    let e6 = and-eq-true-iff _ (eqb (t .aim) 0) .0 (e7 .0) in
+    let e5 = and-eq-true-iff _ (eqb (t .looked) 0) .0 (e6 .0) in
+    let e4 = and-eq-true-iff _ (eqb (t .list) 0) .0 (e5 .0) in
+    let e3 = and-eq-true-iff _ (eqb (t .old) 0) .0 (e4 .0) in
+    let e2 = and-eq-true-iff _ (eqb (t .tag) 0) .0 (e3 .0) in
+    let e1 = and-eq-true-iff (eqb (t .line) 0) (eqb (t .count) 0) .0 (e2 .0) in
+    record {
+      line = eqb-true (t .line) 0 (e1 .0);
+      count = eqb-true (t .count) 0 (e1 .1);
+      tag = eqb-true (t .tag) 0 (e2 .1);
+      old = eqb-true (t .old) 0 (e3 .1);
+      list = eqb-true (t .list) 0 (e4 .1);
+      looked = eqb-true (t .looked) 0 (e5 .1);
+      aim = eqb-true (t .aim) 0 (e6 .1);
+      toggle = eqb-true (t .toggle) 0 (e7 .1);
+      flag = eqb-true (t .flag) 0 (e8 .1);
+      start = eqb-true (t .start) 0 (e9 .1);
+      work = eqb-true (t .work) 0 (e10 .1);
+      left = eqb-true (t .left) 0 (e11 .1);
+      own = eqb-true (t .own) 0 (e12 .1);
+    }
+
+-- a field in range is below 256 where its bound is no more
+pub field-byte : (u : Bool) (bound x : ℕ) → bound ≤ 256 → fieldOk u bound x ≡ true → x ≤ 255
+field-byte true bound x h e = omega (arith, ltb-true x bound e)
+field-byte false bound x h e = omega (arith, eqb-true x 0 e)
+
 pub check-not-9 : (s : State) → checkState s ≢ 9
 unfolding checkState
 check-not-9 s = by-test (λ x. x ≢ 9) (stateOk s) (λ _. omega arith) (λ _. omega arith)

@@ -7,7 +7,7 @@ use Prim.Native.Nat.{ℕ, _+_, _-_, _≤_, _<_}
 use native.Mathlib.Decide.{ℕ-discrete, decLt}
 use native.Mathlib.Omega.{arith}
 use lib.Dec.{eqb, ltb}
-use lib.ListN.{length, getD, set}
+use lib.ListN.{length, getD, set, length-set}
 use lib.Seq.{getD-set-same, getD-set-other, set-out, set-getD}
 use borrow.Author.Tests.{eq-eqb, lt-ltb, le-ltb, ltb-true, ltb-false, eqb-true}
 use Rattle.bitset.specs.Choice.{pick}
@@ -458,3 +458,21 @@ turn-start s p q =
 pub turn-work : (s : State) (p q : ℕ) → taskAt (turnOf s p .state) q .work ≡ taskAt s q .work
 turn-work s p q =
     rw (turn-applied s p) (kept-applied (λ t. t .work) (λ t x. (refl, refl)) (turnOf s p .outcome) s p q (effectOf s p .task) (effectOf s p .write) (effect-keeps s p .length))
+
+-- ---- how many tasks there are
+
+length-written : (w : Write) (s : State) (p : ℕ) (t : Task) → length (written w (withTask s p t) .tasks) ≡ length (s .tasks)
+length-written Nothing s p t = length-set (s .tasks) p t
+length-written (Arrivals x) s p t = length-set (s .tasks) p t
+length-written (Sense x) s p t = length-set (s .tasks) p t
+length-written (Toggle q x) s p t = length-set (set (s .tasks) p t) q _ ∙ length-set (s .tasks) p t
+length-written (Flag q x) s p t = length-set (set (s .tasks) p t) q _ ∙ length-set (s .tasks) p t
+
+length-applied : (o : Outcome) (s : State) (p : ℕ) (t : Task) (w : Write) → length (applied o s p t w .tasks) ≡ length (s .tasks)
+length-applied (Made (Moved closed)) s p t w = length-written w s p t
+length-applied (Made Waited) s p t w = refl
+length-applied (Refused k) s p t w = refl
+
+-- no turn changes that
+pub turn-length : (s : State) (p : ℕ) → length (turnOf s p .state .tasks) ≡ length (s .tasks)
+turn-length s p = rw (turn-applied s p) (length-applied (turnOf s p .outcome) s p (effectOf s p .task) (effectOf s p .write))

@@ -23,7 +23,7 @@ use Rattle.runner.specs.Trace.{Row, Stop, nothing, refusal, Trace, turned, trac
 use Rattle.runner.specs.TraceLaws.{trace-none, trace-turn, made-few}
 use Rattle.runner.specs.Run.{logOf, endingOf, unstopped, runReason, runTrace, runOf, logAfter}
 use Rattle.runner.specs.RunLaws.{run-accepts, run-refuses, run-accepted, length-log}
-use Rattle.rows.specs.Rows.{isRefused, turnRow, rowNumbers, taskRow, taskNumbers}
+use Rattle.rows.specs.Rows.{isRefused, turnRow, rowNumbers, taskRow, taskNumbers, listedOf}
 
 -- ---- what the ending tells
 
@@ -53,6 +53,15 @@ module _ (s : State) (schedule : List ℕ) (allowance : ℕ) (log : List ℕ) (r
   told-valid told = run-accepted s schedule allowance (length log) (told-accepted told) .0
 
 -- ---- the rows of tasks
+
+-- where there is room the answer is the run's, and else that of a refused run
+pub listed-roomy : (s : State) (schedule : List ℕ) (allowance : ℕ) (log : List ℕ) → listedOf s schedule allowance log true ≡ runOf s schedule allowance log
+unfolding listedOf
+listed-roomy s schedule allowance log = refl
+
+pub listed-short : (s : State) (schedule : List ℕ) (allowance : ℕ) (log : List ℕ) → isRefused (listedOf s schedule allowance log false .ending) ≡ true
+unfolding listedOf
+listed-short s schedule allowance log = refl
 
 pub length-tasks : (r : Ran) (n : ℕ) → length (taskNumbers r n) ≡ 4 * n
 unfolding taskNumbers

@@ -1,21 +1,24 @@
 -- What is saved is loaded: a state that was written to a list is what the list keeps.
 use mathlib.Core.Path.{_≡_, refl, sym, ap, _∙_, subst}
 use mathlib.Core.Bool.{true}
-use mathlib.Core.List.{List, _++_}
+use mathlib.Core.List.{List, [], _++_}
 use mathlib.Core.Logic.{_⊎_, inl, inr}
-use Prim.Native.Nat.{ℕ, zero, suc, _+_, _*_, _≤_, _<_}
+use Prim.Native.Nat.{ℕ, zero, suc, _+_, _-_, _*_, _≤_, _<_}
 use native.Mathlib.Nat.{eq-or-lt-of-le, le-of-suc-le-suc}
+use native.Mathlib.Decide.{decLt}
 use native.Mathlib.Omega.{arith}
 use lib.ListN.{length, getD, drop, length-append, List·getD-append}
 use lib.Seq.{getD-append-add, ext-getD}
-use borrow.Author.Tests.{le-leb}
+use lib.Dec.{leb}
+use borrow.Author.Tests.{le-leb, leb-true}
+use Rattle.bitset.specs.ChoiceLaws.{by-test}
 use Rattle.bitset.specs.Table.{table}
 use Rattle.bitset.specs.TableLaws.{length-table, table-at, table-same}
 use Rattle.lines.specs.Setters.{zeroTask}
 use Rattle.machine.specs.declared.State.{State}
 use Rattle.machine.specs.Setters.{taskAt, movesAt, waitsAt}
 use Rattle.snapshot.specs.declared.Loaded.{Loaded}
-use Rattle.snapshot.specs.Snapshot.{taskNumbers, tasksNumbers, headNumbers, parentNumbers, numbersOf, size, savedTo, taskPlace, numberIn, taskFrom, stateFrom, mostIn, fitFrom, tasksFit, fits, loadOf}
+use Rattle.snapshot.specs.Snapshot.{taskNumbers, tasksNumbers, headNumbers, parentNumbers, numbersOf, size, roomReason, savedTo, taskPlace, numberIn, taskFrom, stateFrom, mostIn, fitFrom, tasksFit, fits, loadOf}
 use Rattle.snapshot.specs.SnapshotLaws.{length-numbers, load-fits}
 
 -- what the types of a state's fields ensure: 64 entries in each array, and numbers that fit
@@ -34,7 +37,7 @@ table-of n xs d long =
 
 module _ (s : State) where
   -- the numbers of a task
-  abbrev numbers : ℕ → List ℕ
+  abbrev pub numbers : ℕ → List ℕ
   numbers q = taskNumbers (taskAt s q) (movesAt s q) (waitsAt s q)
 
   -- number k of task q, among those of the tasks below m
@@ -113,6 +116,43 @@ module _ (s : State) where
     fits-append : fits list ≡ fits (numbersOf s)
     fits-append = rw (fit-append 0 (λ _. 255) 69 (omega arith), tasks-append 64 (omega arith))
 
+-- numbers that are each within what their field holds fit
+fit-all : (list : List ℕ) (place : ℕ) (most : ℕ → ℕ) (m : ℕ) → ((k : ℕ) → k < m → getD list (place + k) 0 ≤ most k) → fitFrom list place most m ≡ true
+unfolding fitFrom
+fit-all list place most zero h = refl
+fit-all list place most (suc m) h =
+    rw (fit-all list place most m (λ k l. h k (omega arith)), le-leb (getD list (place + m) 0) (most m) (h m (omega arith)))
+
+tasks-all : (list : List ℕ) (m : ℕ) → ((q : ℕ) → q < m → fitFrom list (taskPlace q) mostIn 15 ≡ true) → tasksFit list m ≡ true
+unfolding tasksFit
+tasks-all list zero h = refl
+tasks-all list (suc m) h = rw (tasks-all list m (λ q l. h q (omega arith)), h m (omega arith))
+
+module _ (s : State) (head : (k : ℕ) → k < 5 → getD (headNumbers s) k 0 ≤ 255) (parents : (q : ℕ) → q < 64 → getD (s .parents) q 0 ≤ 255)
+    (tasks : (q k : ℕ) → q < 64 → k < 15 → getD (numbers s q) k 0 ≤ mostIn k) where
+  head-at : (k : ℕ) → k < 69 → getD (list s []) (0 + k) 0 ≤ 255
+  head-at k h = go (decLt k 5)
+    where
+      z : 0 + k ≡ k
+      z = omega arith
+
+      go : Dec (k < 5) → getD (list s []) (0 + k) 0 ≤ 255
+      go (yes l) =
+          let at = List·getD-append (numbersOf s) [] 0 k (omega (arith, long s))
+          ∙ List·getD-append (front s) (tasksNumbers s 64) 0 k (omega (arith, front-69 s))
+          ∙ List·getD-append (headNumbers s) (parentNumbers s) 0 k l in
+          rw (z, at) (head k l)
+      go (no l) =
+          let m : ℕ = k - 5 in
+          let past : k ≡ 5 + m = omega arith in
+          rw (z, past) (omega (arith, parent-at s [] m (omega arith), parents m (omega arith)))
+
+  -- the numbers of such a state fit
+  pub all-fit : fits (numbersOf s) ≡ true
+  all-fit =
+      sym (fits-append s [])
+      ∙ rw (fit-all (list s []) 0 (λ _. 255) 69 head-at, tasks-all (list s []) 64 (λ q h. fit-all (list s []) (taskPlace q) mostIn 15 (λ k l. omega (arith, number-at s [] q k h l, tasks q k h l))))
+
 -- what was saved to a list with room is what the list keeps
 pub saved-loads : (s : State) (list : List ℕ) → Sized s → size ≤ length list → loadOf (savedTo s list) ≡ record { state = s; reason = 0 }
 unfolding savedTo
@@ -123,3 +163,12 @@ saved-loads s list z room = rw (le-leb size (length list) room) (load ∙ ap loa
 
     load : loadOf (numbersOf s ++ drop size list) ≡ loaded (stateFrom (numbersOf s ++ drop size list))
     load = load-fits (numbersOf s ++ drop size list) (omega (arith, length-append (numbersOf s) (drop size list), long s)) (fits-append s (drop size list) ∙ z .fit)
+
+-- which has room still
+pub saved-room : (s : State) (list : List ℕ) → size ≤ length list → size ≤ length (savedTo s list)
+unfolding savedTo
+saved-room s list room = rw (le-leb size (length list) room) (omega (arith, length-append (numbersOf s) (drop size list), long s))
+
+-- a list that 10 doesn't refuse has room
+pub has-room : (list : List ℕ) → roomReason list ≡ 0 → size ≤ length list
+has-room list = by-test (λ x. x ≡ 0 → size ≤ length list) (leb size (length list)) (λ t _. leb-true size (length list) t) (λ _ z. absurd (omega arith))

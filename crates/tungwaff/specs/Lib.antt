@@ -1,2 +1,3 @@
--- What the exported functions answer (`Entry`).
+-- What the exported functions answer (`Entry`), and the laws of it.
 pub mod Entry
+pub mod EntryLaws
