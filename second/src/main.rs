@@ -3,6 +3,8 @@
 
 mod calls;
 mod cases;
+mod files;
+mod findings;
 mod machine;
 mod parents;
 mod passes;
@@ -39,10 +41,15 @@ usage:
   second write DIR                write the stored cases to DIR/stdin and DIR/stdout
   second answer                   answer the requests on standard input
   second sheet                    print the sheet of the text on standard input
-  second sheets DIR               write the sheet texts to DIR/NAME.text, their sheets beside them
+  second sheets DIR               write the sheet texts to DIR/NAME.text, their sheets to
+                                  DIR/NAME.sheet, the findings of refused ones to DIR/NAME.finding
   second play SETUP TRACE         play the trace of one file from the setup of another
   second plays DIR                write setups, traces and what they show to DIR/NAME.setup,
-                                  DIR/NAME.trace and DIR/NAME.played
+                                  DIR/NAME.trace and DIR/NAME.played, findings as `sheets` does
+  second explain sheet PRINTED TEXT
+                                  print the finding of a text, whose sheet is the refusal PRINTED
+  second explain playback PRINTED SETUP TRACE
+                                  print the finding of a play, likewise
   second call                     answer the calls on standard input
   second calls DIR                write the calls to DIR/requests and their answers to DIR/answers
   second compare DIR FILE         compare the answers to the calls in a file with those in DIR
@@ -80,6 +87,13 @@ fn command(arguments: &[&str]) -> Result<io::Result<bool>, &'static str> {
         ["sheets", folder] => Ok(sheets(Path::new(folder)).map(|()| true)),
         ["play", setup, trace] => Ok(play(Path::new(setup), Path::new(trace)).map(|()| true)),
         ["plays", folder] => Ok(plays(Path::new(folder)).map(|()| true)),
+        ["explain", "sheet", printed, text] => {
+            Ok(explain_sheet(printed, Path::new(text)).map(|()| true))
+        }
+        ["explain", "playback", printed, setup, trace] => {
+            let (setup, trace) = (Path::new(setup), Path::new(trace));
+            Ok(explain_play(printed, setup, trace).map(|()| true))
+        }
         ["call"] => Ok(call().map(|()| true)),
         ["calls", folder] => Ok(calls(Path::new(folder)).map(|()| true)),
         ["compare", folder, answered] => Ok(compare(Path::new(folder), Path::new(answered))),
@@ -133,6 +147,26 @@ fn plays(folder: &Path) -> io::Result<()> {
     let count = plays::write(folder)?;
     println!("{count} plays");
     Ok(())
+}
+
+fn explain_sheet(printed: &str, text: &Path) -> io::Result<()> {
+    let text = read(open(text)?, sheet::MAX_TEXT)?;
+    explain(printed, &sheet::sheet(&text), findings::of_sheet(&text))
+}
+
+fn explain_play(printed: &str, setup: &Path, trace: &Path) -> io::Result<()> {
+    let setup = read(open(setup)?, sheet::MAX_TEXT)?;
+    let trace = read(open(trace)?, playback::MAX_TRACE)?;
+    explain(printed, &play::play(&setup, &trace), findings::of_play(&setup, &trace))
+}
+
+/// Prints a finding. It would be said of another refusal where the answer isn't the one printed.
+fn explain(printed: &str, answer: &str, finding: Option<String>) -> io::Result<()> {
+    match finding {
+        Some(finding) if answer.strip_suffix('\n') == Some(printed) => print(&finding),
+        Some(_) => Err(io::Error::other(format!("it isn't '{printed}': {}", answer.trim_end()))),
+        None => Err(io::Error::other("it isn't refused")),
+    }
 }
 
 fn call() -> io::Result<()> {

@@ -14,7 +14,7 @@ pub fn play(setup: &[u8], trace: &[u8]) -> String {
 }
 
 /// Reads the setup, KIND N R NP NS NW and then the tables of these lengths, and plays the trace.
-fn whole_play(setup: &[u8], trace: &[u8]) -> Result<Verdict, Refusal> {
+pub fn whole_play(setup: &[u8], trace: &[u8]) -> Result<Verdict, Refusal> {
     let numbers = numbers(setup)?;
     let [kind, n, modulus, parents, starts, works, entries @ ..] = &numbers[..] else {
         return Err(Refusal::Text);

@@ -11,7 +11,7 @@ use std::fmt::Write;
 pub const MAX_TEXT: usize = 65_536;
 
 /// The most digits of a number.
-const MAX_DIGITS: usize = 5;
+pub const MAX_DIGITS: usize = 5;
 
 /// The sheet that the text asks for.
 pub fn sheet(text: &[u8]) -> String {
@@ -54,14 +54,18 @@ pub fn read(text: &[u8]) -> Result<(Setup, Vec<u8>), Refusal> {
 
 /// Check 1 but for how many numbers there are, and the numbers of the text.
 pub fn numbers(text: &[u8]) -> Result<Vec<u64>, Refusal> {
-    let known = |&byte: &u8| byte.is_ascii_digit() || byte == b' ' || byte == b'\n';
-    if text.len() > MAX_TEXT || !text.iter().all(known) {
+    if text.len() > MAX_TEXT || !text.iter().all(is_known) {
         return Err(Refusal::Text);
     }
     text.split(|byte| !byte.is_ascii_digit())
         .filter(|digits| !digits.is_empty())
         .map(number)
         .collect()
+}
+
+/// Whether a text can have the byte.
+pub fn is_known(byte: &u8) -> bool {
+    byte.is_ascii_digit() || *byte == b' ' || *byte == b'\n'
 }
 
 /// The number that the digits write.

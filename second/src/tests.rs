@@ -1,6 +1,7 @@
 //! Tests: the scope's cases and traps, the refusals, starts, rounds, tallies, play-back, own work,
 //! the centralized barrier beside the one it answers like, all reachable states of small barriers,
-//! the texts of the sheet, the play and the replay, and the exported functions as calls.
+//! the texts of the sheet, the play and the replay, what is said of refused ones, and the exported
+//! functions as calls.
 
 mod calls;
 mod calls_compare;
@@ -8,6 +9,7 @@ mod calls_functions;
 mod calls_lists;
 mod calls_written;
 mod centralized;
+mod findings;
 mod playback;
 mod plays;
 mod reach;
