@@ -1,40 +1,47 @@
-//! The words of a call: options with a value, options without, and the others in their order.
+//! The words of a call: options with a value, options without, and the others in their order. A word need not be text, since a file's name may be
+//! any bytes.
 
 use crate::stop::Stop;
+use std::ffi::{OsStr, OsString};
+use std::os::unix::ffi::OsStrExt;
 
 pub struct Arguments {
-    others: Vec<String>,
+    others: Vec<OsString>,
     flags: Vec<String>,
-    values: Vec<(String, String)>,
+    values: Vec<(String, OsString)>,
 }
 
 impl Arguments {
     /// Sorts the words by the options that a command has. Each option is given once at most; `--work 1,2` and `--work=1,2` are the same.
-    pub fn of(words: &[String], with_value: &[&str], without: &[&str]) -> Result<Arguments, Stop> {
+    pub fn of(
+        words: &[OsString],
+        with_value: &[&str],
+        without: &[&str],
+    ) -> Result<Arguments, Stop> {
         let mut sorted = Arguments { others: Vec::new(), flags: Vec::new(), values: Vec::new() };
         let mut words = words.iter();
         while let Some(word) = words.next() {
-            if !word.starts_with('-') || word == "-" {
+            let Some(shown) = option_in(word) else {
                 sorted.others.push(word.clone());
                 continue;
-            }
+            };
             let (option, joined) = split(word);
             sorted.once(&option)?;
             if without.contains(&option.as_str()) && joined.is_none() {
                 sorted.flags.push(option);
             } else if with_value.contains(&option.as_str()) {
-                let value = joined.or_else(|| words.next().cloned());
+                let value = joined.or_else(|| words.next().filter(|next| is_value(next)).cloned());
                 let value = value.ok_or_else(|| usage(format!("{option} needs a value")))?;
                 sorted.values.push((option, value));
             } else {
-                return Err(usage(format!("no such option here: {word}")));
+                return Err(usage(format!("no such option here: {shown}")));
             }
         }
         Ok(sorted)
     }
 
     fn once(&self, option: &str) -> Result<(), Stop> {
-        if self.has(option) || self.value(option).is_some() {
+        if self.has(option) || self.path(option).is_some() {
             return Err(usage(format!("{option} is given twice")));
         }
         Ok(())
@@ -44,38 +51,74 @@ impl Arguments {
         self.flags.iter().any(|given| given == flag)
     }
 
-    pub fn value(&self, option: &str) -> Option<&str> {
-        self.values.iter().find(|(given, _)| given == option).map(|(_, value)| value.as_str())
+    /// An option's value, as a file's name.
+    pub fn path(&self, option: &str) -> Option<&OsStr> {
+        self.values.iter().find(|(given, _)| given == option).map(|(_, value)| value.as_os_str())
     }
 
-    /// The words that are no options.
-    pub fn others(&self) -> Vec<&str> {
-        self.others.iter().map(String::as_str).collect()
+    /// An option's value, as text.
+    pub fn value(&self, option: &str) -> Result<Option<&str>, Stop> {
+        self.path(option).map(text).transpose()
+    }
+
+    /// The words that are no options, as text.
+    pub fn others(&self) -> Result<Vec<&str>, Stop> {
+        self.others.iter().map(|word| text(word)).collect()
+    }
+
+    /// The one word that is no option; what it is, for the message.
+    pub fn only(&self, what: &str) -> Result<&OsStr, Stop> {
+        match &self.others[..] {
+            [word] => Ok(word),
+            [] => Err(usage(format!("{what} is needed"))),
+            [_, more, ..] => Err(one_too_many(more)),
+        }
     }
 
     /// A table of bytes, `a,b,..`; none where the option isn't given.
     pub fn table(&self, option: &str) -> Result<Vec<u8>, Stop> {
-        let Some(list) = self.value(option) else {
+        let Some(list) = self.value(option)? else {
             return Ok(Vec::new());
         };
         let entry = |word: &str| {
-            word.parse::<u8>().map_err(|_| {
-                usage(format!("'{word}' in {option} {list} isn't a number from 0 to 255"))
+            let value = number(word, option).ok().and_then(|value| u8::try_from(value).ok());
+            value.ok_or_else(|| {
+                usage(format!("'{word}' in {option} {list} isn't a number below 256"))
             })
         };
         list.split(',').map(entry).collect()
     }
 }
 
-fn split(word: &str) -> (String, Option<String>) {
-    match word.split_once('=') {
-        Some((option, value)) => (option.to_string(), Some(value.to_string())),
-        None => (word.to_string(), None),
-    }
+/// An option as it is shown; none for another word, `-` among them.
+fn option_in(word: &OsStr) -> Option<String> {
+    let shown = word.to_string_lossy();
+    (shown.starts_with('-') && shown != "-").then(|| shown.into_owned())
+}
+
+/// Whether a word behind an option can be its value, and is no further option.
+fn is_value(word: &OsStr) -> bool {
+    !word.to_string_lossy().starts_with("--")
+}
+
+/// An option, and the value that is joined to it.
+fn split(word: &OsStr) -> (String, Option<OsString>) {
+    let mut parts = word.as_bytes().splitn(2, |&byte| byte == b'=').map(OsStr::from_bytes);
+    let option = parts.next().unwrap_or_default().to_string_lossy().into_owned();
+    (option, parts.next().map(OsStr::to_os_string))
 }
 
 pub fn usage(words: String) -> Stop {
     Stop::Usage(words)
+}
+
+pub fn one_too_many(word: &OsStr) -> Stop {
+    usage(format!("'{}' is one word too many", word.to_string_lossy()))
+}
+
+/// A word that must be text.
+pub fn text(word: &OsStr) -> Result<&str, Stop> {
+    word.to_str().ok_or_else(|| usage(format!("'{}' isn't text in UTF-8", word.to_string_lossy())))
 }
 
 /// A whole number, which has a name in the message.

@@ -1,26 +1,21 @@
 //! `barrier bounds`: the passes that surely close a round, by kind, and how long they take.
 
-use crate::arguments::{number, usage, Arguments};
+use crate::arguments::{number, text, usage, Arguments};
 use crate::kinds::KINDS;
 use crate::output;
-use crate::stop::{accepted, Stop};
-use crate::table::counted;
-use crate::tables;
+use crate::settings;
+use crate::stop::Stop;
 use crate::tungwaff::{self, reason};
+use std::ffi::OsString;
 
-pub fn command(words: &[String]) -> Result<(), Stop> {
+pub fn command(words: &[OsString]) -> Result<(), Stop> {
     let given = Arguments::of(words, &["--work", "--pass-ms"], &[])?;
-    let [n] = given.others()[..] else {
-        return Err(usage("bounds needs the number of tasks".to_string()));
-    };
-    let n = number(n, "N")?;
+    let n = number(text(given.only("the number of tasks")?)?, "N")?;
     let works = given.table("--work")?;
-    let pass = given.value("--pass-ms").map(Time::of).transpose()?;
-    let mut page = format!("{}: the passes that surely close a round\n\n", counted(n, "task"));
-    page.push_str(&format!(
-        "barrier              passes{}\n",
-        if pass.is_some() { "  seconds" } else { "" }
-    ));
+    let pass = given.value("--pass-ms")?.map(Time::of).transpose()?;
+    let heading = settings::heading(n, &[], &works);
+    let mut page = format!("{heading}: the passes that surely close a round\n\n");
+    page.push_str(if pass.is_some() { HEAD_WITH_SECONDS } else { HEAD });
     for (kind, name) in KINDS.iter().enumerate() {
         let passes = promised(kind, n, &works)?;
         let seconds = pass.as_ref().map(|pass| format!("  {:>7}", pass.seconds(passes)));
@@ -29,14 +24,18 @@ pub fn command(words: &[String]) -> Result<(), Stop> {
     output::print(&page)
 }
 
+const HEAD: &str = "barrier              passes\n";
+const HEAD_WITH_SECONDS: &str = "barrier              passes  seconds\n";
+
 /// What the library promises.
 pub fn promised(kind: usize, n: usize, works: &[u8]) -> Result<usize, Stop> {
     let limit = tungwaff::limit(kind, n, works);
-    if limit.reason == reason::WORKS {
-        return Err(Stop::refused_at(limit.reason, tables::of_works(n, works)));
+    match limit.reason {
+        0 => Ok(limit.passes),
+        reason::N => Err(Stop::refused_at(reason::N, settings::tasks(n))),
+        reason::WORKS => Err(Stop::refused_at(reason::WORKS, settings::works(n, works))),
+        refusal => Err(Stop::refused(refusal)),
     }
-    accepted(limit.reason)?;
-    Ok(limit.passes)
 }
 
 /// Milliseconds, exactly as they were written: so many units of which there are 10^digits in one.
@@ -48,7 +47,8 @@ struct Time {
 impl Time {
     fn of(word: &str) -> Result<Time, Stop> {
         let wrong = || {
-            usage(format!("--pass-ms is a number of milliseconds, such as 8 or 0.25, above 0, and '{word}' isn't one"))
+            let what = "a number of milliseconds above 0, such as 8 or 0.25, with at most 9 digits before the point and 6 behind it";
+            usage(format!("--pass-ms is {what}, and '{word}' isn't one"))
         };
         let (whole, part) = word.split_once('.').unwrap_or((word, ""));
         let is_digits = |digits: &str| digits.bytes().all(|byte| byte.is_ascii_digit());

@@ -1,46 +1,54 @@
 //! `barrier compare`: every kind on the same schedule.
 
-use crate::arguments::{number, usage, Arguments};
+use crate::arguments::{number, text, Arguments};
 use crate::bounds::promised;
 use crate::kinds::{KINDS, SHAPES};
 use crate::orders::{pass_count, Order};
 use crate::output;
-use crate::rows::{self, Row, Sheet, Told};
-use crate::stop::{accepted, Stop};
+use crate::rows::{self, parents, Row, Sheet, Told};
+use crate::settings;
+use crate::stop::Stop;
 use crate::table::counted;
-use crate::tungwaff::{self, MAX_TURNS, SYMMETRIC, TREE};
+use crate::tungwaff::{MAX_TURNS, SYMMETRIC, TREE};
+use std::ffi::OsString;
 
 /// The modulus that the symmetric barrier is compared with, the least that it may have.
 const MODULUS: usize = 3;
 
-pub fn command(words: &[String]) -> Result<(), Stop> {
+const HEAD: &str =
+    "barrier              rounds   waits  turns a round  longest wait  passes a round  passes promised";
+
+pub fn command(words: &[OsString]) -> Result<(), Stop> {
     let given = Arguments::of(words, &["--slow", "--turns", "--work"], &[])?;
-    let [n] = given.others()[..] else {
-        return Err(usage("compare needs the number of tasks".to_string()));
-    };
-    let n = number(n, "N")?;
-    let order = given.value("--slow").map_or(Ok(Order::RoundRobin), Order::slow)?;
-    let turns = given.value("--turns").map_or(Ok(MAX_TURNS), |turns| number(turns, "--turns"))?;
+    let n = number(text(given.only("the number of tasks")?)?, "N")?;
+    let order = given.value("--slow")?.map_or(Ok(Order::RoundRobin), Order::slow)?;
+    let turns = given.value("--turns")?.map_or(Ok(MAX_TURNS), |turns| number(turns, "--turns"))?;
     let works = given.table("--work")?;
     let schedule = order.turns(n, turns)?;
     let passes = pass_count(n, &schedule)?;
     let mut page = format!(
         "{}, {}: {}, {}\n\n{HEAD}\n",
-        counted(n, "task"),
-        order.in_words(),
+        settings::heading(n, &[], &works),
+        in_words(&order),
         counted(schedule.len(), "turn"),
         if passes == 1 { "1 pass".to_string() } else { format!("{passes} passes") }
     );
     for (name, sheet) in barriers(n, &schedule)? {
         let told = rows::tell(&sheet, &[], &works)?;
         let promised = promised(sheet.kind, n, &works)?;
-        page.push_str(&compared(&name, &told, passes, promised));
+        page.push_str(&compared(&name, &told, &schedule, promised)?);
     }
     output::print(&page)
 }
 
-const HEAD: &str =
-    "barrier              rounds   waits  turns a round  longest wait  passes a round  passes promised";
+fn in_words(order: &Order) -> String {
+    match order {
+        Order::Slow { task, every } => {
+            format!("round robin that names task {task} in one circuit of {every}")
+        }
+        _ => "round robin".to_string(),
+    }
+}
 
 /// Each kind, the tree in each shape, with the schedule.
 fn barriers(n: usize, schedule: &[u8]) -> Result<Vec<(String, Sheet)>, Stop> {
@@ -65,25 +73,32 @@ fn shapes(n: usize) -> Result<Vec<(String, Vec<u8>)>, Stop> {
     SHAPES.iter().enumerate().map(named).collect()
 }
 
-/// The parents of a shape, from the library.
-pub fn parents(shape: usize, n: usize) -> Result<Vec<u8>, Stop> {
-    let mut table = vec![0; tungwaff::MAX_TASKS];
-    accepted(tungwaff::shape(shape, n, &mut table))?;
-    table.truncate(n);
-    Ok(table)
-}
-
-fn compared(name: &str, told: &Told, passes: usize, promised: usize) -> String {
-    let (turns, rounds) = (told.rows.len(), told.rounds as usize);
+fn compared(name: &str, told: &Told, schedule: &[u8], promised: usize) -> Result<String, Stop> {
+    let turns = told.rows.len();
     let waits = told.rows.iter().filter(|row| !row.moved).count();
     let longest = longest_wait(&told.rows, told.n);
-    format!(
-        "{name:19}  {rounds:6}  {:>6}  {:>13}  {:>12}  {:>14}  {promised:15}\n",
+    let (turns_a_round, passes_a_round) = match between_closings(&told.rows) {
+        Some((first, last, rounds)) => {
+            let passes = pass_count(told.n, &schedule[first..last])?;
+            (tenths(last - first, rounds), tenths(passes, rounds))
+        }
+        None => ("-".to_string(), "-".to_string()),
+    };
+    Ok(format!(
+        "{name:19}  {:6}  {:>6}  {turns_a_round:>13}  {:>12}  {passes_a_round:>14}  {promised:15}\n",
+        told.rounds,
         percent(waits, turns),
-        tenths(turns, rounds),
         longest.map_or("-".to_string(), |wait| wait.to_string()),
-        tenths(passes, rounds),
-    )
+    ))
+}
+
+/// The turns from behind the first that closed a round up to and with the last, and how many rounds they closed: whole rounds, without the first,
+/// which begins fresh, and the last, which isn't closed.
+fn between_closings(rows: &[Row]) -> Option<(usize, usize, usize)> {
+    let closings = || (0..rows.len()).filter(|&turn| rows[turn].closed);
+    let (first, last) = (closings().next()?, closings().next_back()?);
+    let rounds = closings().count() - 1;
+    (rounds > 0).then_some((first + 1, last + 1, rounds))
 }
 
 /// The most turns, of whichever task, between two moves of a task, one after the other; none where no task moved twice.
@@ -108,11 +123,8 @@ fn percent(part: usize, whole: usize) -> String {
     format!("{}.{}%", tenths / 10, tenths % 10)
 }
 
-/// A quotient to a tenth, rounded.
+/// A quotient to a tenth, rounded; by no 0.
 fn tenths(part: usize, whole: usize) -> String {
-    if whole == 0 {
-        return "-".to_string();
-    }
     let tenths = (20 * part + whole) / (2 * whole);
     format!("{}.{}", tenths / 10, tenths % 10)
 }
@@ -123,6 +135,16 @@ mod tests {
 
     fn row(task: usize, moved: bool) -> Row {
         Row { task, line: 11, moved, count: 0, least: 0, closed: false }
+    }
+
+    #[test]
+    fn whole_rounds_lie_between_closings() {
+        let closing = |closed: &bool| Row { closed: *closed, ..row(0, true) };
+        let between =
+            |closed: &[bool]| between_closings(&closed.iter().map(closing).collect::<Vec<Row>>());
+        assert_eq!(between(&[false, true, false, false, true, true, false]), Some((2, 6, 2)));
+        assert_eq!(between(&[false, true, false]), None);
+        assert_eq!(between(&[]), None);
     }
 
     #[test]
@@ -143,6 +165,5 @@ mod tests {
         assert_eq!(percent(0, 0), "-");
         assert_eq!(tenths(10, 4), "2.5");
         assert_eq!(tenths(5, 3), "1.7");
-        assert_eq!(tenths(5, 0), "-");
     }
 }

@@ -12,8 +12,9 @@ mod mend;
 mod numbers;
 
 use finding::Form;
+use std::ffi::{OsStr, OsString};
 use std::fs::File;
-use std::io::Read;
+use std::io::{self, Read, Write};
 use std::process::ExitCode;
 
 /// The number of a refusal, and the place of a 9.
@@ -27,54 +28,56 @@ fn refusal(line: &str) -> Option<(u8, usize)> {
 }
 
 /// No more of a file than shows that it is too long.
-fn bytes(path: &str) -> Result<Vec<u8>, String> {
+fn bytes(path: &OsStr) -> Result<Vec<u8>, String> {
     let mut bytes = Vec::new();
     File::open(path)
         .and_then(|file| file.take(finding::MOST as u64 + 1).read_to_end(&mut bytes))
-        .map_err(|error| format!("cannot read '{path}': {error}"))?;
+        .map_err(|error| format!("cannot read '{}': {error}", path.to_string_lossy()))?;
     Ok(bytes)
 }
 
-/// The lines to print for a refusal of a text; a trace is what a play-back has besides.
-fn explained(
-    form: Form,
-    line: &str,
-    path: &str,
-    trace: &str,
-    name: &str,
-) -> Result<String, String> {
+/// The lines to print for a refusal; the files are a text and, of a play-back, a trace, and then what the user calls the text.
+fn explained(form: Form, line: &str, files: &[OsString]) -> Result<String, String> {
     let (reason, place) = refusal(line).ok_or(format!("'{line}' is no refusal"))?;
+    let (path, trace, name) = match (form, files) {
+        (Form::Sheet, [path, name @ ..]) => (path, path, name),
+        (Form::Setup, [path, trace, name @ ..]) => (path, trace, name),
+        _ => return Err("a file is missing".to_string()),
+    };
     let text = bytes(path)?;
     let found = match reason {
         8 | 14 if form == Form::Setup => finding::of_trace(bytes(trace)?.len(), reason),
         _ => finding::of_text(form, &text, reason, place),
     };
-    let Some(found) = found else {
-        return Err(format!("the text shows no cause of {reason}"));
-    };
-    let mend = if reason == 1 { mend::line(&text, name) } else { None };
+    let found = found.ok_or(format!("the text shows no cause of {reason}"))?;
+    let name = name.first().unwrap_or(path).to_str().unwrap_or("-");
+    let mend = if reason == 1 { mend::line(form, &text, name) } else { None };
     let mend = mend.map(|line| format!("{line}\n")).unwrap_or_default();
     Ok(format!("refused {reason}: {found}\n{mend}"))
 }
 
-fn main() -> ExitCode {
-    let arguments: Vec<String> = std::env::args().skip(1).collect();
-    let words: Vec<&str> = arguments.iter().map(String::as_str).collect();
-    let result = match words[..] {
-        ["sheet", line, text] => explained(Form::Sheet, line, text, "", text),
-        ["sheet", line, text, name] => explained(Form::Sheet, line, text, "", name),
-        ["playback", line, setup, trace] => explained(Form::Setup, line, setup, trace, setup),
-        ["playback", line, setup, trace, name] => explained(Form::Setup, line, setup, trace, name),
-        _ => Err("a form, a refusal and files are needed".to_string()),
+fn called(words: &[OsString]) -> Result<String, String> {
+    let [form, line, files @ ..] = words else {
+        return Err("a form, a refusal and files are needed".to_string());
     };
-    match result {
-        Ok(lines) => {
-            print!("{lines}");
-            ExitCode::SUCCESS
-        }
-        Err(message) => {
-            eprintln!("explain: {message}");
-            ExitCode::FAILURE
-        }
+    let line = line.to_string_lossy();
+    match form.to_str() {
+        Some("sheet") => explained(Form::Sheet, &line, files),
+        Some("playback") => explained(Form::Setup, &line, files),
+        _ => Err("the form is sheet or playback".to_string()),
+    }
+}
+
+fn main() -> ExitCode {
+    let words: Vec<OsString> = std::env::args_os().skip(1).collect();
+    let result = called(&words);
+    let written = match &result {
+        Ok(lines) => io::stdout().write_all(lines.as_bytes()),
+        Err(message) => writeln!(io::stderr(), "explain: {message}"),
+    };
+    if result.is_ok() && written.is_ok() {
+        ExitCode::SUCCESS
+    } else {
+        ExitCode::FAILURE
     }
 }

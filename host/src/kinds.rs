@@ -23,10 +23,10 @@ const OWN_WORK: Line = line(11, "own work", "12, when all of its moves are made"
 
 const SYMMETRIC_LINES: &[Line] = &[
     OWN_WORK,
-    line(12, "old := tag; tag := old + 1 mod R; count + 1; list := all tasks", "13"),
+    line(12, "old := tag; tag := (old + 1) mod R; count + 1; list := all tasks", "13"),
     line(
         13,
-        "look at the first task on the list from the own start on",
+        "look at the first task on the list, from the own start on, going round",
         "14; 11 if the list is empty",
     ),
     line(14, "await tag of looked-at != own old; take it off the list", "13"),
@@ -60,7 +60,7 @@ const TREE_LINES: &[Line] = &[
     line(
         18,
         "clear the flag of the least child on the list; take it off",
-        "18; 11 if the list is empty",
+        "18; 11 if the list was empty before, with nothing cleared",
     ),
 ];
 
@@ -85,12 +85,14 @@ pub fn lines(kind: usize) -> &'static [Line] {
     }
 }
 
+/// What a line does.
+pub fn does(kind: usize, number: u32) -> &'static str {
+    lines(kind).iter().find(|line| line.number == number).map_or("", |line| line.does)
+}
+
 /// A line's number and what it does.
 pub fn in_words(kind: usize, number: u32) -> String {
-    match lines(kind).iter().find(|line| line.number == number) {
-        Some(line) => format!("{number} {}", line.does),
-        None => number.to_string(),
-    }
+    format!("{number} {}", does(kind, number))
 }
 
 /// A kind's name; its number where it has none.

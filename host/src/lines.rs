@@ -1,26 +1,26 @@
 //! `barrier lines`: what each line of each kind does, as the table in docs/lines.md.
 
-use crate::arguments::{usage, Arguments};
+use crate::arguments::{one_too_many, Arguments};
 use crate::kinds::{lines, KINDS};
 use crate::output;
 use crate::stop::Stop;
+use std::ffi::OsString;
 
-pub fn command(words: &[String]) -> Result<(), Stop> {
+pub fn command(words: &[OsString]) -> Result<(), Stop> {
     let given = Arguments::of(words, &[], &[])?;
-    if !given.others().is_empty() {
-        return Err(usage("lines takes nothing else".to_string()));
+    if let Some(word) = given.others()?.first() {
+        return Err(one_too_many(word.as_ref()));
     }
-    output::print(&table())
+    let head = "| kind | line | what it does | a move leads to |\n|---|---|---|---|\n";
+    let kinds: String = (0..KINDS.len()).map(rows).collect();
+    output::print(&format!("{head}{kinds}"))
 }
 
-fn table() -> String {
-    let mut page =
-        "| kind | line | what it does | a move leads to |\n|---|---|---|---|\n".to_string();
-    for (kind, name) in KINDS.iter().enumerate() {
-        for line in lines(kind) {
-            let (number, does, then) = (line.number, line.does, line.then);
-            page.push_str(&format!("| {kind} {name} | {number} | {does} | {then} |\n"));
-        }
+fn rows(kind: usize) -> String {
+    let mut page = String::new();
+    for line in lines(kind) {
+        let (name, number, does, then) = (KINDS[kind], line.number, line.does, line.then);
+        page.push_str(&format!("| {kind} {name} | {number} | {does} | {then} |\n"));
     }
     page
 }

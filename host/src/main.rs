@@ -16,9 +16,9 @@ mod output;
 mod picture;
 mod rows;
 mod schedule;
+mod settings;
 mod stop;
 mod table;
-mod tables;
 mod timeline;
 mod trace;
 
@@ -27,16 +27,16 @@ mod trace;
 #[path = "../../include/tungwaff.rs"]
 mod tungwaff;
 
+use std::ffi::OsString;
 use std::process::ExitCode;
 use stop::Stop;
 
 const HELP: &str = include_str!("../help/barrier");
 
-/// Does what a command's name says with the words behind it.
-type Command = fn(&[String]) -> Result<(), Stop>;
+/// What a command is called by, what it does with the words behind its name, and its help.
+type Command = (&'static str, fn(&[OsString]) -> Result<(), Stop>, &'static str);
 
-/// The commands: what each does, and its help.
-const COMMANDS: [(&str, Command, &str); 5] = [
+const COMMANDS: [Command; 5] = [
     ("trace", trace::command, include_str!("../help/trace")),
     ("compare", compare::command, include_str!("../help/compare")),
     ("bounds", bounds::command, include_str!("../help/bounds")),
@@ -44,42 +44,33 @@ const COMMANDS: [(&str, Command, &str); 5] = [
     ("lines", lines::command, include_str!("../help/lines")),
 ];
 
-fn is_help(word: &String) -> bool {
+fn is_help(word: &OsString) -> bool {
     word == "--help" || word == "-h"
 }
 
-fn called(words: &[String]) -> Result<(), Stop> {
-    let Some(name) = words.first() else {
-        return Err(arguments::usage("a command is needed".to_string()));
-    };
-    if is_help(name) {
-        return output::print(HELP);
+/// A call without a command's name: its help, or what is wrong with it.
+fn unnamed(words: &[OsString]) -> Result<(), Stop> {
+    match words.first() {
+        None => Err(arguments::usage("a command is needed".to_string())),
+        Some(word) if is_help(word) => output::print(HELP),
+        Some(word) => Err(arguments::usage(format!("no such command: {}", word.to_string_lossy()))),
     }
-    let Some((_, command, help)) = COMMANDS.iter().find(|(known, _, _)| known == name) else {
-        return Err(arguments::usage(format!("no such command: {name}")));
-    };
-    if words[1..].iter().any(is_help) {
-        return output::print(help);
-    }
-    command(&words[1..])
-}
-
-/// The words of the call; one that is no text in UTF-8, such as a file's name, cannot be taken.
-fn words() -> Result<Vec<String>, Stop> {
-    let word = |word: std::ffi::OsString| {
-        word.into_string().map_err(|word| {
-            arguments::usage(format!("'{}' isn't text in UTF-8", word.to_string_lossy()))
-        })
-    };
-    std::env::args_os().skip(1).map(word).collect()
 }
 
 fn main() -> ExitCode {
-    let Err(stop) = words().and_then(|words| called(&words)) else {
+    let words: Vec<OsString> = std::env::args_os().skip(1).collect();
+    let named = COMMANDS.iter().find(|(name, _, _)| words.first().is_some_and(|word| word == name));
+    let result = match named {
+        None => unnamed(&words),
+        Some((_, _, help)) if words.iter().any(is_help) => output::print(help),
+        Some((_, command, _)) => command(&words[1..]),
+    };
+    let Err(stop) = result else {
         return ExitCode::SUCCESS;
     };
-    for line in stop.lines() {
-        eprintln!("barrier: {line}");
+    let page = named.map_or(String::new(), |(name, _, _)| format!(" {name}"));
+    for line in stop.lines(&page) {
+        output::say(&line);
     }
     ExitCode::from(stop.status())
 }

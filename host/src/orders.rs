@@ -1,6 +1,7 @@
 //! The orders in which a schedule names its tasks.
 
 use crate::arguments::{number, usage};
+use crate::settings;
 use crate::stop::{accepted, Stop};
 use crate::tungwaff::{self, MAX_TURNS};
 
@@ -28,27 +29,16 @@ impl Order {
         Ok(Order::Slow { task, every })
     }
 
-    pub fn in_words(&self) -> String {
-        match self {
-            Order::RoundRobin => "round robin".to_string(),
-            Order::Backwards => "backwards".to_string(),
-            Order::Random(seed) => format!("random, seed {seed}"),
-            Order::Slow { task, every } => {
-                format!("round robin that names task {task} in one circuit of {every}")
-            }
-        }
-    }
-
     /// So many turns of N tasks. The library says whether there can be so many tasks and turns, and whether a slow task is one of them.
     pub fn turns(&self, n: usize, turns: usize) -> Result<Vec<u8>, Stop> {
-        accepted(passes(n, &[]).reason)?;
+        said(passes(n, &[]).reason, settings::tasks(n))?;
         if let Order::Slow { task, .. } = *self {
             let refusal = passes(n, &[u8::try_from(task).unwrap_or(u8::MAX)]).reason;
             said(refusal, format!("the slow task is {task}, and must be below {n}"))?;
         }
         let schedule = self.generated(n, turns.min(MAX_TURNS + 1));
         let refusal = passes(n, &schedule).reason;
-        said(refusal, format!("the turns are {turns}, and may be {MAX_TURNS}"))?;
+        said(refusal, format!("the turns are {turns}, and must be {MAX_TURNS} at most"))?;
         Ok(schedule)
     }
 
@@ -133,14 +123,13 @@ mod tests {
 
     #[test]
     fn a_slow_order_is_that_of_its_circuits() {
-        for n in 1..=5 {
-            for task in 0..n {
-                for every in 1..=4 {
-                    let order = Order::Slow { task, every };
-                    let turns: Vec<usize> = (0..60).map(|turn| order.task(n, turn)).collect();
-                    assert_eq!(turns, by_circuits(n, task, every, 60), "{n} {task}:{every}");
-                }
-            }
+        let tasks = (1..=5).flat_map(|n| (0..n).map(move |task| (n, task)));
+        for (n, task, every) in
+            tasks.flat_map(|(n, task)| (1..=4).map(move |every| (n, task, every)))
+        {
+            let order = Order::Slow { task, every };
+            let turns: Vec<usize> = (0..60).map(|turn| order.task(n, turn)).collect();
+            assert_eq!(turns, by_circuits(n, task, every, 60), "{n} {task}:{every}");
         }
     }
 

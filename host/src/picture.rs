@@ -18,9 +18,15 @@ const TOP: usize = 62;
 /// About how wide a band is.
 const WIDTH: usize = 1200;
 
-/// The least room between two numbers of turns below a band, and between two of rounds above it.
-const APART: usize = 46;
+/// Room to the right, for the number of a round that the last turn closes.
+const RIGHT: usize = 46;
+
+/// The least room between two numbers of rounds above a band.
 const ROUNDS_APART: usize = 60;
+
+/// The least width, which the key needs, and about how much of it a character of the title takes.
+const LEAST_WIDTH: usize = 720;
+const TITLE_CHARACTER: usize = 9;
 
 const STYLE: &str = "text{font-family:sans-serif;fill:#222}\
 .lane{fill:#f1f1f1}.m{fill:#1f5fa8}.w{fill:#d9660a}.mt{fill:#c3d9f2}.wt{fill:#fadcc0}\
@@ -52,6 +58,11 @@ impl Measures {
         Measures { turn, lane, band: WIDTH / turn, n }
     }
 
+    /// Whether a mark has room for a number.
+    fn is_wide(&self) -> bool {
+        self.turn >= 18
+    }
+
     /// The height of a band with what stands above and below it.
     fn pitch(&self) -> usize {
         ABOVE + self.lane * self.n + BELOW
@@ -62,13 +73,15 @@ pub fn drawn(told: &Told) -> String {
     let measures = Measures::of(told);
     let bands = told.rows.len().div_ceil(measures.band).max(1);
     let columns = told.rows.len().clamp(1, measures.band);
-    let width = (LEFT + columns * measures.turn + APART).max(560);
+    let title = summary(told);
+    let least = LEAST_WIDTH.max(16 + TITLE_CHARACTER * title.len());
+    let width = (LEFT + columns * measures.turn + RIGHT).max(least);
     let height = TOP + bands * measures.pitch();
     let mut page = format!(
         "<svg xmlns=\"http://www.w3.org/2000/svg\" width=\"{width}\" height=\"{height}\" viewBox=\"0 0 {width} {height}\">\n\
          <style>{STYLE}</style>\n<rect width=\"{width}\" height=\"{height}\" fill=\"#fff\"/>\n"
     );
-    page.push_str(&heading(told));
+    page.push_str(&heading(&title));
     for band in 0..bands {
         page.push_str(&banded(told, &measures, band));
     }
@@ -77,14 +90,14 @@ pub fn drawn(told: &Told) -> String {
 }
 
 /// What the picture is of, and the key to its colours.
-fn heading(told: &Told) -> String {
-    let title = escaped(&summary(told));
-    let mut page = format!("<text x=\"8\" y=\"20\" font-size=\"15\">{title}</text>\n");
+fn heading(title: &str) -> String {
+    let mut page = format!("<text x=\"8\" y=\"20\" font-size=\"15\">{}</text>\n", escaped(title));
     let key = [
         ("m", 8, "moved"),
         ("w", 78, "waited"),
         ("mt", 148, "since it moved"),
         ("wt", 258, "since it waited"),
+        ("lane", 374, "no turn yet"),
     ];
     for (class, x, words) in key {
         let text = x + 18;
@@ -93,7 +106,7 @@ fn heading(told: &Told) -> String {
             "<rect class=\"{class}\" x=\"{x}\" y=\"31\" width=\"12\" height=\"12\"/><text x=\"{text}\" y=\"41\" font-size=\"11\">{words}</text>\n"
         );
     }
-    page.push_str("<path class=\"r\" d=\"M374 30V44\"/><text x=\"382\" y=\"41\" font-size=\"11\">a round closed: the least count rose</text>\n");
+    page.push_str("<path class=\"r\" d=\"M472 30V44\"/><text x=\"480\" y=\"41\" font-size=\"11\">a round closed: the least count rose</text>\n");
     page
 }
 
@@ -158,17 +171,18 @@ fn mark(
         title(told.kind, turn, row)
     );
     if own {
-        let wide = measures.turn.max(3) - if measures.turn > 4 { 1 } else { 0 };
+        let wide = measures.turn - usize::from(measures.turn > 4);
         let _ = write!(
             page,
             "<rect class=\"{class}\" x=\"{x}\" y=\"{top}\" width=\"{wide}\" height=\"{height}\"/>"
         );
     }
-    if own && measures.turn >= 18 {
+    if own && measures.is_wide() {
         let (middle, text) = (x + measures.turn / 2, top + measures.lane / 2 + 3);
         let _ = write!(
             page,
-            "<text class=\"n\" x=\"{middle}\" y=\"{text}\" font-size=\"10\">{}</text>",
+            "<text class=\"n\" x=\"{middle}\" y=\"{text}\" font-size=\"{}\">{}</text>",
+            measures.lane.min(13) - 3,
             row.line
         );
     }
@@ -214,7 +228,7 @@ fn rules(rows: &[Row], measures: &Measures, y: usize) -> String {
 /// The numbers of turns under a band.
 fn ruler(measures: &Measures, turns: Range<usize>, y: usize) -> String {
     let mut page = String::new();
-    let step = if measures.turn >= APART / 5 { 5 } else { 50 };
+    let step = if measures.is_wide() { 5 } else { 50 };
     let text = y + measures.lane * measures.n + 12;
     for turn in turns.clone().filter(|turn| turn % step == 0) {
         let x = LEFT + (turn - turns.start) * measures.turn;

@@ -1,10 +1,11 @@
 //! The rows of a sheet's text: what the library reads of it, and what its turns do. Nothing here is computed but the numbers' places.
 
 use crate::finding::{self, Form};
+use crate::kinds;
 use crate::mend;
+use crate::settings;
 use crate::stop::{accepted, Stop};
-use crate::tables;
-use crate::tungwaff::{self, reason, Setup, MAX_TASKS, MAX_TURNS, ROW_LENGTH, STATE};
+use crate::tungwaff::{self, reason, Setup, MAX_TASKS, MAX_TURNS, ROW_LENGTH, STATE, TREE};
 
 /// One turn, as `tungwaff_rows` tells it.
 #[derive(Clone, Copy, Debug, PartialEq, Eq)]
@@ -41,11 +42,11 @@ impl Row {
     }
 }
 
-/// A run told turn by turn.
+/// A run told turn by turn, with what it is of in words.
 pub struct Told {
     pub kind: usize,
     pub n: usize,
-    pub modulus: usize,
+    pub setting: String,
     pub rows: Vec<Row>,
     pub rounds: u32,
 }
@@ -75,34 +76,56 @@ pub fn read(text: &[u8], name: &str) -> Result<Sheet, Stop> {
 fn refused_text(text: &[u8], name: &str, reason: u8, place: usize) -> Stop {
     let words = finding::of_text(Form::Sheet, text, reason, place)
         .unwrap_or_else(|| tungwaff::reason_text(reason).to_string());
-    let mend = if reason == reason::TEXT { mend::line(text, name) } else { None };
+    let is_text = reason == reason::TEXT;
+    let mend = if is_text { mend::line(Form::Sheet, text, name) } else { None };
     Stop::Refused { reason, words, mend }
 }
 
 /// The turns of a sheet from a fresh state with these tables.
 pub fn tell(sheet: &Sheet, starts: &[u8], works: &[u8]) -> Result<Told, Stop> {
     let Sheet { kind, n, modulus, ref parents, ref schedule } = *sheet;
-    let setup = Setup { kind, n, modulus, parents, starts, works };
     let mut state = vec![0; STATE];
-    fresh(&setup, &mut state)?;
+    fresh(&Setup { kind, n, modulus, parents, starts, works }, &mut state)?;
     let turns = schedule.len();
     let mut log = vec![0; 2 * turns];
     let mut rows = vec![0; ROW_LENGTH * turns];
     let ran = tungwaff::rows(&mut state, schedule, turns, &mut log, &mut rows);
     accepted(ran.reason)?;
     let rows = rows.chunks_exact(ROW_LENGTH).take(ran.turns).map(Row::of).collect();
-    Ok(Told { kind, n, modulus, rows, rounds: ran.rounds })
+    let setting = format!("{}, {}", name(sheet), settings::heading(n, starts, works));
+    Ok(Told { kind, n, setting, rows, rounds: ran.rounds })
 }
 
-/// Writes the fresh state; a refusal of an option's table says which entry it was.
+/// Writes the fresh state; a refusal says which number it was.
 pub fn fresh(setup: &Setup, state: &mut [u64]) -> Result<(), Stop> {
-    let refusal = tungwaff::fresh(setup, state);
-    match refusal {
-        reason::STARTS => {
-            let words = tables::of_starts(setup.kind, setup.n, setup.starts);
-            Err(Stop::refused_at(refusal, words))
-        }
-        reason::WORKS => Err(Stop::refused_at(refusal, tables::of_works(setup.n, setup.works))),
-        _ => accepted(refusal),
+    match tungwaff::fresh(setup, state) {
+        0 => Ok(()),
+        refusal => Err(Stop::refused_at(refusal, settings::refused(refusal, setup))),
     }
+}
+
+/// The barrier's name, with its modulus or its shape.
+fn name(sheet: &Sheet) -> String {
+    let name = kinds::name(sheet.kind);
+    if sheet.modulus != 0 {
+        return format!("{name} (R {})", sheet.modulus);
+    }
+    let is_shape =
+        |shape: &usize| parents(*shape, sheet.n).is_ok_and(|table| table == sheet.parents);
+    match (0..kinds::SHAPES.len()).find(is_shape) {
+        Some(shape) if sheet.kind == TREE => format!("{name} ({})", kinds::SHAPES[shape]),
+        _ => name,
+    }
+}
+
+/// The parents of a shape, from the library.
+pub fn parents(shape: usize, n: usize) -> Result<Vec<u8>, Stop> {
+    let mut table = vec![0; MAX_TASKS];
+    match tungwaff::shape(shape, n, &mut table) {
+        0 => table.truncate(n),
+        reason::KIND => return Err(Stop::refused_at(reason::KIND, settings::shape(shape))),
+        reason::N => return Err(Stop::refused_at(reason::N, settings::tasks(n))),
+        refusal => return Err(Stop::refused(refusal)),
+    }
+    Ok(table)
 }

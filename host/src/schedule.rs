@@ -1,13 +1,13 @@
 //! `barrier schedule`: turns in an order, or a whole sheet text of them.
 
-use crate::arguments::{number, usage, Arguments};
-use crate::compare::parents;
+use crate::arguments::{number, one_too_many, usage, Arguments};
 use crate::kinds;
 use crate::orders::Order;
 use crate::output;
-use crate::rows;
+use crate::rows::{self, parents};
 use crate::stop::Stop;
-use crate::tungwaff::{reason, SYMMETRIC, TREE};
+use crate::tungwaff::{reason, Setup, STATE, SYMMETRIC, TREE};
+use std::ffi::OsString;
 
 /// The circuits that are written where no number of turns is given.
 const CIRCUITS: usize = 10;
@@ -15,11 +15,11 @@ const CIRCUITS: usize = 10;
 /// About how many turns stand on a line.
 const ON_A_LINE: usize = 16;
 
-pub fn command(words: &[String]) -> Result<(), Stop> {
+pub fn command(words: &[OsString]) -> Result<(), Stop> {
     let given = Arguments::of(words, &["--kind", "--modulus", "--shape"], &[])?;
-    let others = given.others();
+    let others = given.others()?;
     let [n, order, ref more @ ..] = others[..] else {
-        return Err(usage("schedule needs the number of tasks and an order".to_string()));
+        return Err(usage("the number of tasks and an order are needed".to_string()));
     };
     let n = number(n, "N")?;
     let (order, turns) = ordered(order, more)?;
@@ -30,13 +30,13 @@ pub fn command(words: &[String]) -> Result<(), Stop> {
     let head = head(&given, n)?;
     let schedule = order.turns(n, turns)?;
     let text = format!("{head}{}", written(n, &schedule));
-    if given.value("--kind").is_some() {
+    if !head.is_empty() {
         rows::read(text.as_bytes(), "-").map_err(too_long)?; // the library says whether it is a text of the sheet
     }
     output::print(&text)
 }
 
-/// The text is made of readable numbers, so that it can be unreadable only by its length.
+/// The head was accepted, and the turns are tasks, so that the text can be unreadable only by its length.
 fn too_long(stop: Stop) -> Stop {
     match stop {
         Stop::Refused { reason: reason::TEXT, words, .. } => {
@@ -63,14 +63,14 @@ fn ordered<'a>(order: &str, more: &[&'a str]) -> Result<(Order, Option<&'a str>)
     match rest {
         [] => Ok((order, None)),
         [turns] => Ok((order, Some(turns))),
-        [_, more, ..] => Err(usage(format!("'{more}' is one word too many"))),
+        [_, more, ..] => Err(one_too_many(more.as_ref())),
     }
 }
 
-/// The head of a sheet text and its parents, where a kind is given.
+/// The head of a sheet text and its parents, where a kind is given. The library says whether there is such a barrier.
 fn head(given: &Arguments, n: usize) -> Result<String, Stop> {
-    let (modulus, shape) = (given.value("--modulus"), given.value("--shape"));
-    let Some(kind) = given.value("--kind") else {
+    let (modulus, shape) = (given.value("--modulus")?, given.value("--shape")?);
+    let Some(kind) = given.value("--kind")? else {
         return match modulus.or(shape) {
             Some(_) => Err(usage("--modulus and --shape need --kind".to_string())),
             None => Ok(String::new()),
@@ -82,12 +82,13 @@ fn head(given: &Arguments, n: usize) -> Result<String, Stop> {
     }
     let usual = if kind == SYMMETRIC { 3 } else { 0 };
     let modulus = modulus.map_or(Ok(usual), |modulus| number(modulus, "--modulus"))?;
-    let mut head = format!("{kind} {n} {modulus}\n");
-    if kind == TREE {
-        let parents = parents(shape.map_or(Ok(0), kinds::shape)?, n)?;
-        head.push_str(&written(n, &parents));
-    }
-    Ok(head)
+    let table = match kind {
+        TREE => parents(shape.map_or(Ok(0), kinds::shape)?, n)?,
+        _ => Vec::new(),
+    };
+    let setup = Setup { kind, n, modulus, parents: &table, ..Setup::default() };
+    rows::fresh(&setup, &mut vec![0; STATE])?;
+    Ok(format!("{kind} {n} {modulus}\n{}", written(n, &table)))
 }
 
 /// Tasks on lines of whole circuits.

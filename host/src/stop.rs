@@ -32,12 +32,12 @@ impl Stop {
         }
     }
 
-    /// What is said on standard error, a line each.
-    pub fn lines(&self) -> Vec<String> {
+    /// What is said on standard error, a line each. The command is the one whose help explains a wrong call, with a space before it.
+    pub fn lines(&self, command: &str) -> Vec<String> {
         match self {
             Stop::Quiet => Vec::new(),
             Stop::Failed(words) => vec![words.clone()],
-            Stop::Usage(words) => vec![format!("{words} (bin/barrier --help explains)")],
+            Stop::Usage(words) => vec![format!("{words} (bin/barrier{command} --help explains)")],
             Stop::Refused { reason, words, mend } => {
                 let first = format!("refused {reason}: {words}");
                 std::iter::once(first).chain(mend.clone()).collect()

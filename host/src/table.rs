@@ -21,11 +21,10 @@ pub fn aligned(told: &Told) -> String {
 
 fn aligned_row(kind: usize, turn: usize, row: &Row, width: usize) -> String {
     let words = kinds::in_words(kind, row.line);
-    let closed = if row.closed { "  closed round " } else { "" };
-    let round = if row.closed { row.least.to_string() } else { String::new() };
+    let closed = if row.closed { format!("  closed round {}", row.least) } else { String::new() };
     let (task, answer) = (row.task, row.answer());
     format!(
-        "{turn:5}  {task:4}  {words:width$}  {answer:6}  {:5}  {:5}{closed}{round}\n",
+        "{turn:5}  {task:4}  {words:width$}  {answer:6}  {:5}  {:5}{closed}\n",
         row.count, row.least
     )
 }
@@ -37,16 +36,10 @@ pub fn summary(told: &Told) -> String {
     let waited = turns - moved;
     format!(
         "{}: {}, {moved} moved and {waited} waited; {} closed",
-        setting(told),
+        told.setting,
         counted(turns, "turn"),
         counted(told.rounds as usize, "round")
     )
-}
-
-/// The barrier that the turns are of.
-pub fn setting(told: &Told) -> String {
-    let modulus = if told.modulus == 0 { String::new() } else { format!(" (R {})", told.modulus) };
-    format!("{}{modulus}, {}", kinds::name(told.kind), counted(told.n, "task"))
 }
 
 pub fn counted(count: usize, what: &str) -> String {
@@ -57,9 +50,8 @@ pub fn counted(count: usize, what: &str) -> String {
 pub fn csv(told: &Told) -> String {
     let mut page = "turn,task,line,does,answer,count,least,closed\n".to_string();
     for (turn, row) in told.rows.iter().enumerate() {
-        let words = kinds::in_words(told.kind, row.line);
-        let does = words.split_once(' ').map_or("", |(_, does)| does);
-        let (closed, answer) = (u8::from(row.closed), row.answer());
+        let (does, answer) = (kinds::does(told.kind, row.line), row.answer());
+        let closed = u8::from(row.closed);
         let Row { task, line, count, least, .. } = row;
         page.push_str(&format!(
             "{turn},{task},{line},\"{does}\",{answer},{count},{least},{closed}\n"

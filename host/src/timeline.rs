@@ -3,33 +3,29 @@
 use crate::rows::{Row, Told};
 use crate::table::summary;
 
-/// The turns of a band.
+/// The turns of a band, and of them those between two numbers of the ruler above it.
 const BAND: usize = 100;
-
-/// Where a turn stands among those of a band, every ten.
-const TEN: usize = 10;
+const STEP: usize = 10;
 
 pub fn drawn(told: &Told) -> String {
     let mut page = format!("{}\n", summary(told));
     for (index, rows) in told.rows.chunks(BAND).enumerate() {
         page.push('\n');
         page.push_str(&ruler(index * BAND, rows.len()));
-        for task in 0..told.n {
-            page.push_str(&lane(task, rows));
-        }
+        page.extend((0..told.n).map(|task| lane(task, rows)));
         page.push_str(&closings(rows));
     }
     page
 }
 
-/// The number of every tenth turn, above its column.
+/// The numbers of turns, above their columns.
 fn ruler(first: usize, turns: usize) -> String {
     let marks: String =
-        (0..turns).step_by(TEN).map(|turn| format!("{:<TEN$}", first + turn)).collect();
+        (0..turns).step_by(STEP).map(|turn| format!("{:<STEP$}", first + turn)).collect();
     labelled("turn", &marks)
 }
 
-/// A task's turns: the last digit of the line that it moved from, `-` where it waited; nothing in the other tasks' turns.
+/// A task's turns: the last digit of the line that it moved from, `-` where it waited; a dot in the other tasks' turns.
 fn lane(task: usize, rows: &[Row]) -> String {
     let mark = |row: &Row| match (row.task == task, row.moved) {
         (false, _) => '.',
