@@ -92,8 +92,8 @@ fn compared(name: &str, told: &Told, schedule: &[u8], promised: usize) -> Result
     ))
 }
 
-/// The turns from behind the first that closed a round up to and with the last, and how many rounds they closed: whole rounds, without the first,
-/// which begins fresh, and the last, which isn't closed.
+/// The turns from behind the first that closed a round up to and with the last, and how many rounds they closed: neither the first round, which
+/// begins fresh, nor what is left open at the end.
 fn between_closings(rows: &[Row]) -> Option<(usize, usize, usize)> {
     let closings = || (0..rows.len()).filter(|&turn| rows[turn].closed);
     let (first, last) = (closings().next()?, closings().next_back()?);
