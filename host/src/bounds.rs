@@ -4,8 +4,8 @@ use crate::arguments::{number, text, usage, Arguments};
 use crate::kinds::KINDS;
 use crate::output;
 use crate::settings;
-use crate::stop::Stop;
-use crate::tungwaff::{self, reason};
+use crate::stop::{accepted_or, Stop};
+use crate::tungwaff::{self, Setup};
 use std::ffi::OsString;
 
 pub fn command(words: &[OsString]) -> Result<(), Stop> {
@@ -30,12 +30,9 @@ const HEAD_WITH_SECONDS: &str = "barrier              passes  seconds\n";
 /// What the library promises.
 pub fn promised(kind: usize, n: usize, works: &[u8]) -> Result<usize, Stop> {
     let limit = tungwaff::limit(kind, n, works);
-    match limit.reason {
-        0 => Ok(limit.passes),
-        reason::N => Err(Stop::refused_at(reason::N, settings::tasks(n))),
-        reason::WORKS => Err(Stop::refused_at(reason::WORKS, settings::works(n, works))),
-        refusal => Err(Stop::refused(refusal)),
-    }
+    let setup = Setup { kind, n, works, ..Setup::default() };
+    accepted_or(limit.reason, || settings::refused(limit.reason, &setup))?;
+    Ok(limit.passes)
 }
 
 /// Milliseconds, exactly as they were written: so many units of which there are 10^digits in one.

@@ -10,6 +10,7 @@
 mod finding;
 mod mend;
 mod numbers;
+mod words;
 
 use finding::Form;
 use std::ffi::{OsStr, OsString};

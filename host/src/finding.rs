@@ -2,6 +2,7 @@
 //! library's; what is looked for here is only the place that it speaks of.
 
 use crate::numbers::{self, Number};
+use crate::words;
 
 /// The most bytes of a text or a trace.
 pub const MOST: usize = 65_536;
@@ -35,9 +36,9 @@ pub fn of_text(form: Form, bytes: &[u8], reason: u8, place: usize) -> Option<Str
     let text = Text { bytes, form, numbers: numbers::of(bytes) };
     let (offset, words) = match reason {
         1 => text.unreadable(),
-        2 => text.head(0, "the kind is", "0 to 4"),
-        3 => text.head(1, "N is", "1 to 64"),
-        4 => text.modulus(),
+        2 => text.at(0, words::kind(text.kind())),
+        3 => text.at(1, words::tasks(text.n())),
+        4 => text.at(2, words::modulus(text.kind(), text.value(2))),
         5 => text.parents_length(),
         6 => text.parent(),
         9 => text.turn(place),
@@ -75,8 +76,8 @@ impl Text<'_> {
         Some((self.bytes.len(), words))
     }
 
-    fn head(&self, index: usize, name: &str, must: &str) -> Found {
-        self.at(index, format!("{name} {}, and must be {must}", self.value(index)))
+    fn must(&self, index: usize, name: &str, range: &str) -> Found {
+        self.at(index, words::must(name, self.value(index), range))
     }
 
     fn kind(&self) -> usize {
@@ -128,13 +129,6 @@ impl Text<'_> {
         self.at(said, format!("number {} of the text, and its lengths say {said}", said + 1))
     }
 
-    fn modulus(&self) -> Found {
-        match self.kind() {
-            0 => self.head(2, "R is", "3 to 255 for kind 0"),
-            kind => self.head(2, "R is", &format!("0 for kind {kind}")),
-        }
-    }
-
     fn parents_length(&self) -> Found {
         let (kind, n) = (self.kind(), self.n());
         match (self.form, kind) {
@@ -142,8 +136,8 @@ impl Text<'_> {
                 let count = self.numbers.len() - self.form.head();
                 self.at_end(format!("the text ends here with {count} parents, and must have {n}"))
             }
-            (Form::Setup, 3) => self.head(3, "NP is", &format!("{n} for kind 3")),
-            (Form::Setup, _) => self.head(3, "NP is", &format!("0 for kind {kind}")),
+            (Form::Setup, 3) => self.must(3, "NP", &format!("{n} for kind 3")),
+            (Form::Setup, _) => self.must(3, "NP", &format!("0 for kind {kind}")),
         }
     }
 
@@ -153,15 +147,12 @@ impl Text<'_> {
         begin: usize,
         name: &str,
         is_wrong: fn(usize, usize, usize) -> bool,
-        must: impl Fn(usize) -> String,
+        range: impl Fn(usize) -> String,
     ) -> Found {
         let n = self.n();
         let task = (0..n).find(|&task| is_wrong(task, self.value(begin + task), n))?;
         let value = self.value(begin + task);
-        self.at(
-            begin + task,
-            format!("the {name} of task {task} is {value}, and must be {}", must(task)),
-        )
+        self.at(begin + task, words::entry(name, task, value, &range(task)))
     }
 
     fn parent(&self) -> Found {
@@ -169,30 +160,27 @@ impl Text<'_> {
             self.form.head(),
             "parent",
             |task, parent, _| if task == 0 { parent != 0 } else { parent >= task },
-            |task| if task == 0 { "0".to_string() } else { format!("below {task}") },
+            |task| if task == 0 { "0".to_string() } else { words::below(task) },
         )
     }
 
     fn turn(&self, place: usize) -> Found {
         let parents = if self.kind() == 3 { self.n() } else { 0 };
         let index = self.form.head() + parents + place;
-        self.at(
-            index,
-            format!("turn {place} is {}, and must be below {}", self.value(index), self.n()),
-        )
+        self.must(index, &format!("turn {place}"), &words::below(self.n()))
     }
 
     fn start(&self) -> Found {
         let (kind, n) = (self.kind(), self.n());
         match self.value(4) {
             0 => None,
-            _ if kind != 0 => self.head(4, "NS is", &format!("0 for kind {kind}")),
-            length if length != n => self.head(4, "NS is", &format!("0 or {n}")),
+            _ if kind != 0 => self.must(4, "NS", &format!("0 for kind {kind}")),
+            length if length != n => self.must(4, "NS", &format!("0 or {n}")),
             _ => self.entry(
                 6 + self.value(3),
                 "start",
                 |_, start, n| start >= n,
-                |_| format!("below {n}"),
+                |_| words::below(n),
             ),
         }
     }
@@ -201,12 +189,12 @@ impl Text<'_> {
         let n = self.n();
         match self.value(5) {
             0 => None,
-            length if length != n => self.head(5, "NW is", &format!("0 or {n}")),
+            length if length != n => self.must(5, "NW", &format!("0 or {n}")),
             _ => self.entry(
                 6 + self.value(3) + self.value(4),
                 "work length",
                 |_, work, _| work == 0 || work > 255,
-                |_| "1 to 255".to_string(),
+                |_| words::WORK.to_string(),
             ),
         }
     }

@@ -21,6 +21,7 @@ mod stop;
 mod table;
 mod timeline;
 mod trace;
+mod words;
 
 /// All of the library, whether it is used here or not.
 #[allow(dead_code)]

@@ -1,9 +1,9 @@
 //! The orders in which a schedule names its tasks.
 
 use crate::arguments::{number, usage};
-use crate::settings;
-use crate::stop::{accepted, Stop};
+use crate::stop::{accepted, accepted_or, Stop};
 use crate::tungwaff::{self, MAX_TURNS};
+use crate::words;
 
 #[derive(Clone, Copy, Debug, PartialEq, Eq)]
 pub enum Order {
@@ -31,14 +31,14 @@ impl Order {
 
     /// So many turns of N tasks. The library says whether there can be so many tasks and turns, and whether a slow task is one of them.
     pub fn turns(&self, n: usize, turns: usize) -> Result<Vec<u8>, Stop> {
-        said(passes(n, &[]).reason, settings::tasks(n))?;
+        accepted_or(passes(n, &[]).reason, || words::tasks(n))?;
         if let Order::Slow { task, .. } = *self {
             let refusal = passes(n, &[u8::try_from(task).unwrap_or(u8::MAX)]).reason;
-            said(refusal, format!("the slow task is {task}, and must be below {n}"))?;
+            accepted_or(refusal, || words::must("the slow task", task, &words::below(n)))?;
         }
         let schedule = self.generated(n, turns.min(MAX_TURNS + 1));
         let refusal = passes(n, &schedule).reason;
-        said(refusal, format!("the turns are {turns}, and must be {MAX_TURNS} at most"))?;
+        accepted_or(refusal, || format!("the turns are {turns}, and must be {MAX_TURNS} at most"))?;
         Ok(schedule)
     }
 
@@ -81,15 +81,6 @@ fn random(seed: u64, n: usize, turns: usize) -> Vec<u8> {
         mixed ^ (mixed >> 31)
     };
     (0..turns).map(|_| ((u128::from(next()) * n as u128) >> 64) as u8).collect()
-}
-
-/// Goes on only where the library refused nothing; else with these words for it.
-fn said(refusal: u8, words: String) -> Result<(), Stop> {
-    if refusal == 0 {
-        Ok(())
-    } else {
-        Err(Stop::refused_at(refusal, words))
-    }
 }
 
 /// What the library says of a schedule: 3, 8 and 9, and its passes, whose places aren't kept.

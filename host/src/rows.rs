@@ -4,8 +4,9 @@ use crate::finding::{self, Form};
 use crate::kinds;
 use crate::mend;
 use crate::settings;
-use crate::stop::{accepted, Stop};
+use crate::stop::{accepted, accepted_or, Stop};
 use crate::tungwaff::{self, reason, Setup, MAX_TASKS, MAX_TURNS, ROW_LENGTH, STATE, TREE};
+use crate::words;
 
 /// One turn, as `tungwaff_rows` tells it.
 #[derive(Clone, Copy, Debug, PartialEq, Eq)]
@@ -98,10 +99,8 @@ pub fn tell(sheet: &Sheet, starts: &[u8], works: &[u8]) -> Result<Told, Stop> {
 
 /// Writes the fresh state; a refusal says which number it was.
 pub fn fresh(setup: &Setup, state: &mut [u64]) -> Result<(), Stop> {
-    match tungwaff::fresh(setup, state) {
-        0 => Ok(()),
-        refusal => Err(Stop::refused_at(refusal, settings::refused(refusal, setup))),
-    }
+    let refusal = tungwaff::fresh(setup, state);
+    accepted_or(refusal, || settings::refused(refusal, setup))
 }
 
 /// The barrier's name, with its modulus or its shape.
@@ -121,11 +120,11 @@ fn name(sheet: &Sheet) -> String {
 /// The parents of a shape, from the library.
 pub fn parents(shape: usize, n: usize) -> Result<Vec<u8>, Stop> {
     let mut table = vec![0; MAX_TASKS];
-    match tungwaff::shape(shape, n, &mut table) {
-        0 => table.truncate(n),
-        reason::KIND => return Err(Stop::refused_at(reason::KIND, settings::shape(shape))),
-        reason::N => return Err(Stop::refused_at(reason::N, settings::tasks(n))),
-        refusal => return Err(Stop::refused(refusal)),
-    }
+    let refusal = tungwaff::shape(shape, n, &mut table);
+    accepted_or(refusal, || match refusal {
+        reason::KIND => words::must("the shape", shape, "0 to 3"),
+        _ => settings::refused(refusal, &Setup { n, ..Setup::default() }),
+    })?;
+    table.truncate(n);
     Ok(table)
 }

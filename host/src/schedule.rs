@@ -40,7 +40,8 @@ pub fn command(words: &[OsString]) -> Result<(), Stop> {
 fn too_long(stop: Stop) -> Stop {
     match stop {
         Stop::Refused { reason: reason::TEXT, words, .. } => {
-            Stop::refused_at(reason::TEXT, format!("{words}: fewer turns will do"))
+            let words = format!("{words}: fewer turns will do");
+            Stop::Refused { reason: reason::TEXT, words, mend: None }
         }
         other => other,
     }

@@ -3,47 +3,32 @@
 
 use crate::table::counted;
 use crate::tungwaff::{reason, reason_text, Setup};
+use crate::words;
 
-/// The words for a refused fresh state.
+/// The words for a refusal of what a fresh state is made from, or of a part of it.
 pub fn refused(refusal: u8, setup: &Setup) -> String {
     match refusal {
-        reason::KIND => format!("the kind is {}, and must be 0 to 4", setup.kind),
-        reason::N => tasks(setup.n),
-        reason::MODULUS if setup.kind == 0 => {
-            format!("R is {}, and must be 3 to 255 for kind 0", setup.modulus)
+        reason::KIND => words::kind(setup.kind),
+        reason::N => words::tasks(setup.n),
+        reason::MODULUS => words::modulus(setup.kind, setup.modulus),
+        reason::STARTS if setup.kind != 0 => {
+            format!("a start table is for kind 0, and this is kind {}", setup.kind)
         }
-        reason::MODULUS => format!("R is {}, and must be 0 for kind {}", setup.modulus, setup.kind),
-        reason::STARTS => starts(setup.kind, setup.n, setup.starts),
-        reason::WORKS => works(setup.n, setup.works),
+        reason::STARTS => {
+            let wrong = setup.starts.iter().position(|&start| usize::from(start) >= setup.n);
+            entry(setup.n, setup.starts, "start", wrong, &words::below(setup.n))
+        }
+        reason::WORKS => {
+            let wrong = setup.works.iter().position(|&work| work == 0);
+            entry(setup.n, setup.works, "work length", wrong, words::WORK)
+        }
         _ => reason_text(refusal).to_string(),
     }
 }
 
-pub fn tasks(n: usize) -> String {
-    format!("N is {n}, and must be 1 to 64")
-}
-
-pub fn shape(shape: usize) -> String {
-    format!("the shape is {shape}, and must be 0 to 3")
-}
-
-fn starts(kind: usize, n: usize, starts: &[u8]) -> String {
-    if kind != 0 {
-        return format!("a start table is for kind 0, and this is kind {kind}");
-    }
-    let wrong = starts.iter().position(|&start| usize::from(start) >= n);
-    entry(n, starts, "start", wrong, &format!("below {n}"))
-}
-
-pub fn works(n: usize, works: &[u8]) -> String {
-    entry(n, works, "work length", works.iter().position(|&work| work == 0), "1 to 255")
-}
-
-fn entry(n: usize, table: &[u8], name: &str, wrong: Option<usize>, must: &str) -> String {
+fn entry(n: usize, table: &[u8], name: &str, wrong: Option<usize>, range: &str) -> String {
     match wrong {
-        Some(task) if table.len() == n => {
-            format!("the {name} of task {task} is {}, and must be {must}", table[task])
-        }
+        Some(task) if table.len() == n => words::entry(name, task, table[task].into(), range),
         _ => format!("the table of {name}s has length {}, and must have {n}", table.len()),
     }
 }

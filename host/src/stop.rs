@@ -15,15 +15,6 @@ pub enum Stop {
 }
 
 impl Stop {
-    /// A refusal in the library's own words.
-    pub fn refused(reason: u8) -> Stop {
-        Stop::refused_at(reason, reason_text(reason).to_string())
-    }
-
-    pub fn refused_at(reason: u8, words: String) -> Stop {
-        Stop::Refused { reason, words, mend: None }
-    }
-
     pub fn status(&self) -> u8 {
         match self {
             Stop::Failed(_) | Stop::Quiet => 1,
@@ -46,11 +37,15 @@ impl Stop {
     }
 }
 
-/// Goes on only where the library refused nothing.
-pub fn accepted(reason: u8) -> Result<(), Stop> {
-    if reason == 0 {
-        Ok(())
-    } else {
-        Err(Stop::refused(reason))
+/// Goes on only where the library refused nothing; else with these words for it.
+pub fn accepted_or(reason: u8, words: impl FnOnce() -> String) -> Result<(), Stop> {
+    match reason {
+        0 => Ok(()),
+        _ => Err(Stop::Refused { reason, words: words(), mend: None }),
     }
+}
+
+/// The same in the library's own words.
+pub fn accepted(reason: u8) -> Result<(), Stop> {
+    accepted_or(reason, || reason_text(reason).to_string())
 }
