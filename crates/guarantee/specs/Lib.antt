@@ -1,6 +1,6 @@
 -- What a customer may rely on. `Calls` has the words of demand 3, `Guarantee` the theorem and `Promise` what holds of
 -- ready; `Accepted` the words of the law on tallies, and `Tallies` that law; `Answers` the words of the claim on kinds 1 and 4, and `CountsDown` that claim;
--- `Reach` and `Done` what else holds of reached states; the others show them.
+-- `Reach` and `Done` what else holds of reached states, and `Sheet` of the sheet's; the others show them.
 pub mod Calls
 pub mod Turns
 pub mod Answers
@@ -13,3 +13,4 @@ pub mod Limit
 pub mod Accepted
 pub mod Tallies
 pub mod Done
+pub mod Sheet

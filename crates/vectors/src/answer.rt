@@ -1,5 +1,6 @@
 // The answer to each request, from what the libraries answer.
 use crate::fields;
+use crate::fields::Kept;
 use crate::print;
 use crate::print::Output;
 use crate::print::Said;
@@ -17,18 +18,6 @@ use playback::Verdict;
 use runner::Ending;
 use schedule::answer::Passes;
 
-// The state that is kept, and what is said.
-struct Answered {
-    state: State,
-    said: Said,
-}
-
-// The state that is kept, and the place after the answer.
-pub struct Printed {
-    pub state: State,
-    pub at: usize,
-}
-
 // The most bytes of a log and numbers of a list.
 const MOST_LOG: usize = 131072;
 
@@ -43,20 +32,15 @@ fn refused(reason: u8, place: usize) -> Said {
     }
 }
 
-fn fresh(setup: Setup, parents: &[u8], starts: &[u8], works: &[u8]) -> Answered {
+fn fresh(setup: Setup, parents: &[u8], starts: &[u8], works: &[u8], kept: &mut Kept) -> Said {
     let answer = setup.fresh(parents, starts, works);
     let state = answer.state;
     let reason = answer.reason;
+    snapshot::save::save(state, kept);
     if reason == 0 {
-        return Answered {
-            state,
-            said: Said::Number(0),
-        };
+        return Said::Number(0);
     }
-    Answered {
-        state,
-        said: Said::Refused(reason),
-    }
+    Said::Refused(reason)
 }
 
 fn outcome(made: Outcome) -> Said {
@@ -69,12 +53,19 @@ fn outcome(made: Outcome) -> Said {
     }
 }
 
-fn turn(before: State, task: usize) -> Answered {
+// The state that is kept. Each of its numbers fits.
+fn kept_state(kept: &Kept) -> State {
+    let loaded = snapshot::load::load(kept);
+    loaded.state
+}
+
+fn turn(kept: &mut Kept, task: usize) -> Said {
+    let before = kept_state(kept);
     let turned = before.turn(task);
     let state = turned.state;
     let made = turned.outcome;
-    let said = outcome(made);
-    Answered { state, said }
+    snapshot::save::save(state, kept);
+    outcome(made)
 }
 
 fn who(ready: Ready) -> Said {
@@ -85,25 +76,18 @@ fn who(ready: Ready) -> Said {
     }
 }
 
-fn ready(before: State) -> Answered {
+fn ready(kept: &Kept) -> Said {
+    let before = kept_state(kept);
     let readied = before.ready();
-    let state = readied.state;
     let answer = readied.ready;
-    let said = who(answer);
-    Answered { state, said }
+    who(answer)
 }
 
-fn change(state: State, field: u64, task: usize, value: u64) -> Answered {
-    if !fields::holds(field, task, value) {
-        return Answered {
-            state,
-            said: Said::Plain(Word::BadLine),
-        };
-    }
-    let changed = fields::with(state, field, task, value);
-    Answered {
-        state: changed,
-        said: Said::Plain(Word::Ok),
+fn change(kept: &mut Kept, field: u64, task: usize, value: u64) -> Said {
+    if fields::change(kept, field, task, value) {
+        Said::Plain(Word::Ok)
+    } else {
+        Said::Plain(Word::BadLine)
     }
 }
 
@@ -117,13 +101,14 @@ fn setup_of(line: Line) -> Setup {
 }
 
 // A fresh state with its tables one after the other: so many parents, so many starts, and then the work lengths.
-fn fresh_from(line: Line, tables: &[u8], parents: usize, starts: usize) -> Answered {
+fn fresh_from(line: Line, tables: &[u8], parents: usize, starts: usize, kept: &mut Kept) -> Said {
     let rest = print::part(tables, parents, tables.len());
     fresh(
         setup_of(line),
         print::part(tables, 0, parents),
         print::part(rest, 0, starts),
         print::part(rest, starts, rest.len()),
+        kept,
     )
 }
 
@@ -136,7 +121,7 @@ fn verdict(found: Verdict) -> Said {
 }
 
 // A play-back, with its tables and the trace one after the other: so many parents, so many starts, so many work lengths, and then the trace.
-fn play(line: Line, entries: &[u8]) -> Answered {
+fn play(line: Line, entries: &[u8], kept: &mut Kept) -> Said {
     let parents = line.head[4] as usize;
     let starts = line.head[5] as usize;
     let works = line.head[6] as usize;
@@ -151,26 +136,29 @@ fn play(line: Line, entries: &[u8]) -> Answered {
     );
     let state = played.state;
     let found = played.verdict;
-    let said = verdict(found);
-    Answered { state, said }
+    snapshot::save::save(state, kept);
+    verdict(found)
 }
 
 // The requests that answer no list.
-fn brief(state: State, ask: u64, line: Line, tail: &[u8]) -> Answered {
+fn brief(kept: &mut Kept, ask: u64, line: Line, tail: &[u8]) -> Said {
     let a = line.head[1];
     let b = line.head[2];
     let c = line.head[3];
     match ask {
-        1 => fresh_from(line, tail, tail.len(), 0),
-        10 => fresh_from(line, tail, line.head[4] as usize, line.head[5] as usize),
-        11 => play(line, tail),
-        2 => turn(state, a as usize),
-        3 => ready(state),
-        6 => change(state, a, b as usize, c),
-        _ => Answered {
-            state,
-            said: Said::Plain(Word::BadLine),
-        },
+        1 => fresh_from(line, tail, tail.len(), 0, kept),
+        10 => fresh_from(
+            line,
+            tail,
+            line.head[4] as usize,
+            line.head[5] as usize,
+            kept,
+        ),
+        11 => play(line, tail, kept),
+        2 => turn(kept, a as usize),
+        3 => ready(kept),
+        6 => change(kept, a, b as usize, c),
+        _ => Said::Plain(Word::BadLine),
     }
 }
 
@@ -189,43 +177,41 @@ fn tally(turns: [u32; 64], out: &mut Output, at: usize) -> usize {
 }
 
 fn run_on(
-    before: State,
+    kept: &mut Kept,
     schedule: &[u8],
     allowance: usize,
     log: &mut [u8],
     out: &mut Output,
     at: usize,
-) -> Printed {
+) -> usize {
+    let before = kept_state(kept);
     let ran = runner::run(before, schedule, allowance, log);
     let state = ran.state;
     let how = ran.ending;
     let moves = ran.moves;
     let waits = ran.waits;
+    snapshot::save::save(state, kept);
     let mut k = print::say(ending(how), out, at);
     k = print::next(ran.turns as u64, out, k);
     k = print::next(ran.rounds as u64, out, k);
     k = tally(moves, out, k);
     k = tally(waits, out, k);
-    k = print::bytes(log, out, k);
-    Printed { state, at: k }
+    print::bytes(log, out, k)
 }
 
 fn run(
-    state: State,
+    kept: &mut Kept,
     schedule: &[u8],
     allowance: usize,
     len: usize,
     out: &mut Output,
     at: usize,
-) -> Printed {
+) -> usize {
     let mut log = [255u8; MOST_LOG];
     if MOST_LOG < len {
-        return Printed {
-            state,
-            at: print::say(Said::Plain(Word::BadLine), out, at),
-        };
+        return print::say(Said::Plain(Word::BadLine), out, at);
     }
-    run_on(state, schedule, allowance, &mut log[0..len], out, at)
+    run_on(kept, schedule, allowance, &mut log[0..len], out, at)
 }
 
 fn counted(passes: Passes) -> Said {
@@ -278,44 +264,24 @@ fn shape(shape: usize, n: usize, len: usize, out: &mut Output, at: usize) -> usi
     shape_on(shape, n, &mut table[0..len], out, at)
 }
 
-// The answer to a line, with no line feed. Its tables, turns or trace stand in `tail`.
+// Prints the answer to a line, with no line feed. Its tables, turns or trace stand in `tail`.
 pub(crate) fn answer(
-    state: State,
+    kept: &mut Kept,
     line: Line,
     tail: &[u8],
     out: &mut Output,
     at: usize,
-) -> Printed {
+) -> usize {
     let ask = request::asked(line);
     let a = line.head[1] as usize;
     let b = line.head[2] as usize;
     let c = line.head[3] as usize;
     match ask {
-        4 => run(state, tail, a, b, out, at),
-        5 => Printed {
-            state,
-            at: fields::show(state, out, at),
-        },
-        7 => Printed {
-            state,
-            at: passes(a, tail, b, out, at),
-        },
-        8 => Printed {
-            state,
-            at: first_pass(a, tail, b, out, at),
-        },
-        9 => Printed {
-            state,
-            at: shape(a, b, c, out, at),
-        },
-        _ => {
-            let answered = brief(state, ask, line, tail);
-            let kept = answered.state;
-            let said = answered.said;
-            Printed {
-                state: kept,
-                at: print::say(said, out, at),
-            }
-        }
+        4 => run(kept, tail, a, b, out, at),
+        5 => fields::show(kept, out, at),
+        7 => passes(a, tail, b, out, at),
+        8 => first_pass(a, tail, b, out, at),
+        9 => shape(a, b, c, out, at),
+        _ => print::say(brief(kept, ask, line, tail), out, at),
     }
 }

@@ -1,4 +1,5 @@
-// Replays requests over the libraries. A line of numbers is a request, and is answered by a line; one state is kept, all zeros at first.
+// Replays requests over the libraries. A line of numbers is a request, and is answered by a line; one state is kept, all zeros at first, as a
+// list of numbers (`snapshot`).
 //
 //     1 KIND N R P..            a fresh state, kept also if refused    0, or refused K
 //     2 TASK                    a turn                                 1 C moved (C: 1 if it closed a round, else 0), 0 waited, or refused K
@@ -21,64 +22,51 @@ mod print;
 mod request;
 mod text;
 
-use answer::Printed;
+use fields::Kept;
+use fields::NUMBERS;
 use libc::STDIN_FILENO;
-use machine::State;
 use print::Output;
 use print::ROOM;
 use text::Entries;
 use text::Line;
 use text::MOST_NUMBERS;
 
-// What is kept from block to block: the state, the line being read, the place of the next byte of output, and whether the input goes on.
+// What goes on from block to block: the line being read, the place of the next byte of output, and whether there is more input.
 struct Replay {
-    state: State,
     line: Line,
     at: usize,
     more: bool,
 }
 
-// The state is all zeros.
-fn start() -> Replay {
-    let state = State::zero();
-    Replay {
-        state,
-        line: text::empty(),
-        at: 0,
-        more: true,
-    }
-}
-
 // Answers the line that ends here.
 fn end_line(
-    state: State,
+    kept: &mut Kept,
     line: Line,
     entries: &mut Entries,
     out: &mut Output,
     at: usize,
-) -> Printed {
+) -> usize {
     let whole = line.end_number(entries);
     let tail = print::part(entries, request::head_of(whole.head[0]), whole.count);
-    let answer = answer::answer(state, whole, tail, out, at);
-    let kept = answer.state;
-    Printed {
-        state: kept,
-        at: print::byte(b'\n', out, answer.at),
-    }
+    let k = answer::answer(kept, whole, tail, out, at);
+    print::byte(b'\n', out, k)
 }
 
 // Reads the bytes of a block, and answers each line that ends in it.
-fn read_block(replay: Replay, block: &[u8], entries: &mut Entries, out: &mut Output) -> Replay {
-    let mut state = replay.state;
+fn read_block(
+    replay: Replay,
+    block: &[u8],
+    kept: &mut Kept,
+    entries: &mut Entries,
+    out: &mut Output,
+) -> Replay {
     let mut line = replay.line;
     let mut at = replay.at;
     let mut i = 0;
     while i < block.len() {
         let b = block[i];
         if b == b'\n' {
-            let answer = end_line(state, line, entries, out, at);
-            state = answer.state;
-            at = answer.at;
+            at = end_line(kept, line, entries, out, at);
             line = text::empty();
         } else {
             line = line.byte(b, entries);
@@ -86,7 +74,6 @@ fn read_block(replay: Replay, block: &[u8], entries: &mut Entries, out: &mut Out
         i += 1;
     }
     Replay {
-        state,
         line,
         at,
         more: true,
@@ -94,7 +81,7 @@ fn read_block(replay: Replay, block: &[u8], entries: &mut Entries, out: &mut Out
 }
 
 // Reads once, and answers the lines that came.
-fn read_some(replay: Replay, entries: &mut Entries, out: &mut Output) -> Replay {
+fn read_some(replay: Replay, kept: &mut Kept, entries: &mut Entries, out: &mut Output) -> Replay {
     let mut block = io::large_buffer();
     let got = libc::read(STDIN_FILENO, &mut block);
     let n = io::count(got, &block);
@@ -103,33 +90,37 @@ fn read_some(replay: Replay, entries: &mut Entries, out: &mut Output) -> Replay 
         ended.more = false;
         return ended;
     }
-    read_block(replay, &block[..n], entries, out)
+    read_block(replay, &block[..n], kept, entries, out)
 }
 
 // A proved loop has to end, and nothing says that the input does. So the loop counts its turns down, from a number that no run uses up.
-fn read_all(entries: &mut Entries, out: &mut Output) -> Replay {
-    let mut replay = start();
+fn read_all(kept: &mut Kept, entries: &mut Entries, out: &mut Output) -> Replay {
+    let mut replay = Replay {
+        line: text::empty(),
+        at: 0,
+        more: true,
+    };
     let mut turns = u64::MAX;
     while turns > 0 && replay.more {
-        replay = read_some(replay, entries, out);
+        replay = read_some(replay, kept, entries, out);
         turns -= 1;
     }
     replay
 }
 
 // A last line needs no line feed.
-fn finish(replay: Replay, entries: &mut Entries, out: &mut Output) {
+fn finish(replay: Replay, kept: &mut Kept, entries: &mut Entries, out: &mut Output) {
     let mut at = replay.at;
     if 0 < replay.line.length {
-        let answer = end_line(replay.state, replay.line, entries, out, at);
-        at = answer.at;
+        at = end_line(kept, replay.line, entries, out, at);
     }
     print::flush(out, at);
 }
 
 fn main() {
+    let mut kept = [0u64; NUMBERS];
     let mut entries = [0u8; MOST_NUMBERS];
     let mut out = [0u8; ROOM];
-    let replay = read_all(&mut entries, &mut out);
-    finish(replay, &mut entries, &mut out);
+    let replay = read_all(&mut kept, &mut entries, &mut out);
+    finish(replay, &mut kept, &mut entries, &mut out);
 }

@@ -4,10 +4,10 @@ use Rattle.vectors.proofs.read_all.Statement.{statement}
 use Rattle.vectors.proofs.read_all.Tie as tie
 
 abbrev Inv-loop : tie.InvT-loop
-Inv-loop entries₀ out₀ replay₀ turns₀ entries out replay turns = Unit {0}
+Inv-loop kept₀ entries₀ out₀ replay₀ turns₀ kept entries out replay turns = Unit {0}
 
 abbrev μ-loop : tie.MeasureT-loop
-μ-loop entries₀ out₀ replay₀ turns₀ entries out replay turns = turns
+μ-loop kept₀ entries₀ out₀ replay₀ turns₀ kept entries out replay turns = turns
 
 pub read-all-spec : {M : Type 1} → statement M
 read-all-spec =

@@ -6,10 +6,10 @@ use Rattle.vectors.proofs.read_block.Statement.{statement}
 use Rattle.vectors.proofs.read_block.Tie as tie
 
 abbrev Inv-loop : tie.InvT-loop
-Inv-loop block entries₀ out₀ state₀ line₀ at₀ i₀ entries out state line at i = Unit {0}
+Inv-loop block kept₀ entries₀ out₀ line₀ at₀ i₀ kept entries out line at i = Unit {0}
 
 abbrev μ-loop : tie.MeasureT-loop
-μ-loop block entries₀ out₀ state₀ line₀ at₀ i₀ entries out state line at i = length block - i
+μ-loop block kept₀ entries₀ out₀ line₀ at₀ i₀ kept entries out line at i = length block - i
 
 pub read-block-spec : {M : Type 1} → statement M
 read-block-spec =
