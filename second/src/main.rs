@@ -1,8 +1,9 @@
 //! The second program: the five barriers once more, to hold another program's answers against.
-//! This file holds the commands.
+//! This file holds its commands; those that answer another's questions stand in commands.rs.
 
 mod calls;
 mod cases;
+mod commands;
 mod files;
 mod findings;
 mod machine;
@@ -31,8 +32,7 @@ mod works;
 mod tests;
 
 use std::env;
-use std::fs::File;
-use std::io::{self, BufReader, BufWriter, Read, Write};
+use std::io::{self, BufWriter, Write};
 use std::path::Path;
 use std::process::ExitCode;
 
@@ -80,24 +80,16 @@ fn main() -> ExitCode {
 /// Carries out a command, which gives false if it found fault. Where the command is wrong,
 /// nothing is done, and the words that say why are given.
 fn command(arguments: &[&str]) -> Result<io::Result<bool>, &'static str> {
+    if let Some(done) = commands::answering(arguments) {
+        return Ok(done.map(|()| true));
+    }
     match arguments {
         ["write", folder] => Ok(write(Path::new(folder)).map(|()| true)),
-        ["answer"] => Ok(answer().map(|()| true)),
-        ["sheet"] => Ok(sheet().map(|()| true)),
         ["sheets", folder] => Ok(sheets(Path::new(folder)).map(|()| true)),
-        ["play", setup, trace] => Ok(play(Path::new(setup), Path::new(trace)).map(|()| true)),
         ["plays", folder] => Ok(plays(Path::new(folder)).map(|()| true)),
-        ["explain", "sheet", printed, text] => {
-            Ok(explain_sheet(printed, Path::new(text)).map(|()| true))
-        }
-        ["explain", "playback", printed, setup, trace] => {
-            let (setup, trace) = (Path::new(setup), Path::new(trace));
-            Ok(explain_play(printed, setup, trace).map(|()| true))
-        }
-        ["call"] => Ok(call().map(|()| true)),
         ["calls", folder] => Ok(calls(Path::new(folder)).map(|()| true)),
         ["compare", folder, answered] => Ok(compare(Path::new(folder), Path::new(answered))),
-        ["traces"] => Ok(print(&traces::table()).map(|()| true)),
+        ["traces"] => Ok(commands::print(&traces::table()).map(|()| true)),
         ["random", seed, count] => {
             let numbers = "SEED and COUNT are whole numbers";
             let seed = seed.parse().map_err(|_| numbers)?;
@@ -119,61 +111,16 @@ fn write(folder: &Path) -> io::Result<()> {
     Ok(())
 }
 
-fn answer() -> io::Result<()> {
-    let input = BufReader::with_capacity(1 << 16, io::stdin().lock());
-    let output = BufWriter::with_capacity(1 << 16, io::stdout().lock());
-    let mut replay = requests::Replay::default();
-    serve::answer(input, output, |line| replay.answer(line))
-}
-
-fn sheet() -> io::Result<()> {
-    let text = read(io::stdin().lock(), sheet::MAX_TEXT)?;
-    print(&sheet::sheet(&text))
-}
-
 fn sheets(folder: &Path) -> io::Result<()> {
     let count = sheets::write(folder)?;
     println!("{count} texts");
     Ok(())
 }
 
-fn play(setup: &Path, trace: &Path) -> io::Result<()> {
-    let setup = read(open(setup)?, sheet::MAX_TEXT)?;
-    let trace = read(open(trace)?, playback::MAX_TRACE)?;
-    print(&play::play(&setup, &trace))
-}
-
 fn plays(folder: &Path) -> io::Result<()> {
     let count = plays::write(folder)?;
     println!("{count} plays");
     Ok(())
-}
-
-fn explain_sheet(printed: &str, text: &Path) -> io::Result<()> {
-    let text = read(open(text)?, sheet::MAX_TEXT)?;
-    explain(printed, &sheet::sheet(&text), findings::of_sheet(&text))
-}
-
-fn explain_play(printed: &str, setup: &Path, trace: &Path) -> io::Result<()> {
-    let setup = read(open(setup)?, sheet::MAX_TEXT)?;
-    let trace = read(open(trace)?, playback::MAX_TRACE)?;
-    explain(printed, &play::play(&setup, &trace), findings::of_play(&setup, &trace))
-}
-
-/// Prints a finding. It would be said of another refusal where the answer isn't the one printed.
-fn explain(printed: &str, answer: &str, finding: Option<String>) -> io::Result<()> {
-    match finding {
-        Some(finding) if answer.strip_suffix('\n') == Some(printed) => print(&finding),
-        Some(_) => Err(io::Error::other(format!("it isn't '{printed}': {}", answer.trim_end()))),
-        None => Err(io::Error::other("it isn't refused")),
-    }
-}
-
-fn call() -> io::Result<()> {
-    let input = BufReader::with_capacity(1 << 16, io::stdin().lock());
-    let output = BufWriter::with_capacity(1 << 16, io::stdout().lock());
-    let mut caller = calls::caller::Caller::default();
-    serve::answer(input, output, |line| caller.answer(line).unwrap_or_else(|| "bad line".into()))
 }
 
 fn calls(folder: &Path) -> io::Result<()> {
@@ -201,20 +148,4 @@ fn random(seed: u64, count: usize) -> io::Result<()> {
         output.write_all(line)?;
     }
     output.flush()
-}
-
-/// Opens a file; the error names it.
-fn open(path: &Path) -> io::Result<File> {
-    File::open(path).map_err(|error| io::Error::other(format!("{}: {error}", path.display())))
-}
-
-/// Reads the whole input, and of one that is longer than this no more than shows that it is.
-fn read(input: impl Read, most: usize) -> io::Result<Vec<u8>> {
-    let mut bytes = Vec::new();
-    input.take(most as u64 + 1).read_to_end(&mut bytes)?;
-    Ok(bytes)
-}
-
-fn print(text: &str) -> io::Result<()> {
-    io::stdout().write_all(text.as_bytes())
 }
