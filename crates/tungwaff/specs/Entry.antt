@@ -5,14 +5,21 @@ use Prim.Native.Nat.{ℕ}
 use lib.Dec.{eqb}
 use lib.ListN.{length}
 use Rattle.bitset.specs.Choice.{pick}
+use Rattle.parents.specs.Shapes.{shapeOf, tableAfter}
+use Rattle.schedule.specs.Passes.{passesAnswer, passesReason, passesCount, passesPlace, pairsAfter}
 use Rattle.machine.specs.declared.Turned.{Turned}
 use Rattle.machine.specs.declared.Ready.{Ready}
 use Rattle.machine.specs.declared.Ready.the-variants as ready
 use Rattle.machine.specs.Fresh.{Inputs, inputsOf, firstReason, freshOf}
 use Rattle.machine.specs.Turn.{refusedTurn, turnOf, reasonNumber}
-use Rattle.machine.specs.Ready.{readyOf}
+use Rattle.machine.specs.Ready.{readyOf, readyReason, readyNumber}
 use Rattle.runner.specs.declared.Ran.{Ran}
-use Rattle.runner.specs.Run.{refusedRun}
+use Rattle.runner.specs.Run.{refusedRun, endingReason}
+use Rattle.playback.specs.Playback.{playOf, verdictReason, verdictAgrees, verdictIndex}
+use Rattle.numbers.specs.Numbers.{endingPlace, turnNumber, turnClosed}
+use Rattle.reader.specs.declared.Said.{Said}
+use Rattle.reader.specs.Read.{saidOf, parentsIn, turnsIn, readWithin}
+use Rattle.sheet_text.specs.Print.{sheetOf, pageOf}
 use Rattle.rows.specs.Rows.{turnRoom, taskRoom, isRefused, listedOf, listedLog, turnRowsAfter, taskRowsAfter}
 use Rattle.snapshot.specs.Snapshot.{roomReason, savedTo, loadOf}
 use Rattle.tungwaff.specs.declared.Begun.{Begun}
@@ -84,5 +91,144 @@ turnList list p =
     let turned = turnedFrom (keptIn list) p in
     pick (eqb (reasonNumber (turned .outcome)) 0) (savedTo (turned .state) list) list
 
-unfoldable pub readyFrom : Begun → Ready
-readyFrom b = pick (eqb (b .reason) 0) (readyOf (b .state) .ready) (ready.Refused (b .reason))
+unfoldable pub readyKept : Begun → Ready
+readyKept b = pick (eqb (b .reason) 0) (readyOf (b .state) .ready) (ready.Refused (b .reason))
+
+-- ---- what each exported function answers: its own number (`reason`, where it has one), those that it tells, and what was lent to be written
+
+-- `tungwaff_fresh`
+pub record FreshAnswer : Type 0 where
+  pub reason : ℕ
+  pub list : List ℕ
+
+abbrev pub freshTold : Inputs → List ℕ → FreshAnswer
+freshTold i list = record { reason = freshInto i list; list = freshList i list }
+
+-- the numbers of a run: why it or a turn of it was refused, the turns made, the place of a 9, and the rounds closed
+pub record RunNumbers : Type 0 where
+  pub reason : ℕ
+  pub turns : ℕ
+  pub place : ℕ
+  pub rounds : ℕ
+
+abbrev pub numbersOf : Ran → RunNumbers
+numbersOf ran = record { reason = endingReason (ran .ending); turns = ran .turns; place = endingPlace (ran .ending); rounds = ran .rounds }
+
+-- `tungwaff_run`
+pub record RunAnswer : Type 0 where
+  pub numbers : RunNumbers
+  pub log : List ℕ
+  pub tasks : List ℕ
+
+abbrev pub runTold : Inputs → List ℕ → ℕ → List ℕ → List ℕ → RunAnswer
+runTold i schedule allowance log tasks =
+    let b = freshly i in
+    record {
+      numbers = numbersOf (tasksRan b schedule allowance log tasks);
+      log = tasksLog b schedule allowance log tasks;
+      tasks = tasksFrom b schedule allowance log tasks;
+    }
+
+-- `tungwaff_resume`, with the list that keeps the state
+pub record ResumeAnswer : Type 0 where
+  pub numbers : RunNumbers
+  pub log : List ℕ
+  pub tasks : List ℕ
+  pub list : List ℕ
+
+abbrev pub resumeTold : List ℕ → List ℕ → ℕ → List ℕ → List ℕ → ResumeAnswer
+resumeTold list schedule allowance log tasks =
+    let b = keptIn list in
+    record {
+      numbers = numbersOf (tasksRan b schedule allowance log tasks);
+      log = tasksLog b schedule allowance log tasks;
+      tasks = tasksFrom b schedule allowance log tasks;
+      list = keptAfter (tasksRan b schedule allowance log tasks) list;
+    }
+
+-- `tungwaff_rows`, likewise
+pub record RowsAnswer : Type 0 where
+  pub numbers : RunNumbers
+  pub log : List ℕ
+  pub rows : List ℕ
+  pub list : List ℕ
+
+abbrev pub rowsTold : List ℕ → List ℕ → ℕ → List ℕ → List ℕ → RowsAnswer
+rowsTold list schedule allowance log rows =
+    let b = keptIn list in
+    record {
+      numbers = numbersOf (rowsRan b schedule allowance log rows);
+      log = rowsLog b schedule allowance log rows;
+      rows = rowsFrom b schedule allowance log rows;
+      list = keptAfter (rowsRan b schedule allowance log rows) list;
+    }
+
+-- `tungwaff_turn`
+pub record TurnAnswer : Type 0 where
+  pub reason : ℕ
+  pub moved : ℕ
+  pub closed : ℕ
+  pub list : List ℕ
+
+abbrev pub turnTold : List ℕ → ℕ → TurnAnswer
+turnTold list p =
+    let outcome = turnedFrom (keptIn list) p .outcome in
+    record { reason = reasonNumber outcome; moved = turnNumber outcome; closed = turnClosed outcome; list = turnList list p }
+
+-- `tungwaff_ready`
+pub record ReadyAnswer : Type 0 where
+  pub reason : ℕ
+  pub task : ℕ
+
+abbrev pub readyTold : List ℕ → ReadyAnswer
+readyTold list = let ready = readyKept (keptIn list) in
+    record { reason = readyReason ready; task = readyNumber ready }
+
+-- `tungwaff_passes`
+pub record PassesAnswer : Type 0 where
+  pub reason : ℕ
+  pub count : ℕ
+  pub place : ℕ
+  pub pairs : List ℕ
+
+abbrev pub passesTold : ℕ → List ℕ → List ℕ → PassesAnswer
+passesTold n schedule pairs =
+    let answer = passesAnswer n schedule (length pairs) in
+    record { reason = passesReason answer; count = passesCount answer; place = passesPlace answer; pairs = pairsAfter n schedule pairs }
+
+-- `tungwaff_shape`
+pub record ShapeAnswer : Type 0 where
+  pub reason : ℕ
+  pub table : List ℕ
+
+abbrev pub shapeTold : ℕ → ℕ → List ℕ → ShapeAnswer
+shapeTold shape n table = record { reason = shapeOf shape n (length table); table = tableAfter shape n table }
+
+-- `tungwaff_play`
+pub record PlayAnswer : Type 0 where
+  pub reason : ℕ
+  pub agrees : ℕ
+  pub index : ℕ
+
+abbrev pub playTold : Inputs → List ℕ → PlayAnswer
+playTold i trace = let verdict = playOf i trace .verdict in
+    record { reason = verdictReason verdict; agrees = verdictAgrees verdict; index = verdictIndex verdict }
+
+-- `tungwaff_read`: what is said of the text, and the buffers of parents and turns
+pub record ReadAnswer : Type 0 where
+  pub said : Said
+  pub parents : List ℕ
+  pub schedule : List ℕ
+
+abbrev pub readTold : List ℕ → List ℕ → List ℕ → ReadAnswer
+readTold text parents schedule =
+    let reading = readWithin text (length parents) (length schedule) in
+    record { said = saidOf reading; parents = parentsIn reading parents; schedule = turnsIn reading schedule }
+
+-- `tungwaff_sheet`
+pub record SheetAnswer : Type 0 where
+  pub length : ℕ
+  pub page : List ℕ
+
+abbrev pub sheetTold : List ℕ → SheetAnswer
+sheetTold text = record { length = length (sheetOf text); page = pageOf text }

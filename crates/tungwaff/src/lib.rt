@@ -11,17 +11,10 @@ use snapshot::load::load;
 use snapshot::save::save;
 ghost use mathlib.Core.Path.{_≡_};
 ghost use lib.ListN.{length};
-ghost use Rattle.parents.specs.Shapes.{shapeOf, tableAfter};
-ghost use Rattle.schedule.specs.Passes.{passesAnswer, passesReason, passesCount, passesPlace, pairsAfter};
 ghost use Rattle.schedule.specs.FirstPass.{firstPassOf};
-ghost use Rattle.machine.specs.Turn.{reasonNumber};
-ghost use Rattle.machine.specs.Ready.{readyReason, readyNumber};
-ghost use Rattle.runner.specs.Run.{refusedRun, endingReason};
-ghost use Rattle.numbers.specs.Numbers.{endingPlace, turnNumber, turnClosed};
-ghost use Rattle.playback.specs.Playback.{playOf, verdictReason, verdictAgrees, verdictIndex};
+ghost use Rattle.machine.specs.Fresh.{inputsOf};
+ghost use Rattle.runner.specs.Run.{refusedRun};
 ghost use Rattle.bound.specs.Bound.{limitOf};
-ghost use Rattle.reader.specs.Read.{saidOf, parentsIn, turnsIn, readWithin};
-ghost use Rattle.sheet_text.specs.Print.{sheetOf, pageOf};
 ghost use Rattle.tungwaff.specs.Entry as defs;
 
 // What a call begins with: a state, and the reason that refused it, or 0.
@@ -32,7 +25,7 @@ struct Begun {
 
 // The fresh state.
 fn freshly(setup: Setup, parents: &[u8], starts: &[u8], works: &[u8]) -> Begun
-    ensures { λ r. ⌜ r ≡ defs.freshly (defs.inputsFrom (setup .kind) (setup .n) (setup .modulus) (now (parents .entry)) (now (starts .entry)) (now (works .entry))) ⌝ }
+    ensures { λ r. ⌜ r ≡ defs.freshly (inputsOf setup (now (parents .entry)) (now (starts .entry)) (now (works .entry))) ⌝ }
 {
     let fresh = setup.fresh(parents, starts, works);
     let state = fresh.state;
@@ -66,8 +59,8 @@ pub extern "C" fn tungwaff_fresh(
     works: &[u8],
     list: &mut [u64],
 ) -> u8
-    ensures { λ r. ⌜ r ≡ defs.freshInto (defs.inputsFrom kind n modulus (now (parents .entry)) (now (starts .entry)) (now (works .entry))) (now (list .entry)) ⌝ }
-    ensures { λ _. ⌜ now (list .exit) ≡ defs.freshList (defs.inputsFrom kind n modulus (now (parents .entry)) (now (starts .entry)) (now (works .entry))) (now (list .entry)) ⌝ }
+    ensures { λ r. ⌜ defs.freshTold (defs.inputsFrom kind n modulus (now (parents .entry)) (now (starts .entry)) (now (works .entry))) (now (list .entry))
+        ≡ record { reason = r; list = now (list .exit) } ⌝ }
 {
     let begun = freshly(Setup { kind, n, modulus }, parents, starts, works);
     let reason = begun.reason;
@@ -141,10 +134,8 @@ fn keep(ran: Ran, list: &mut [u64])
 
 // Tells a run's answer: the turns made, the place of reason 9, else 0, the rounds closed, and the reason.
 fn tell(ran: Ran, turns: &mut usize, place: &mut usize, rounds: &mut u32) -> u8
-    ensures { λ r. ⌜ r ≡ endingReason (ran .ending) ⌝ }
-    ensures { λ _. ⌜ now (turns .exit) ≡ ran .turns ⌝ }
-    ensures { λ _. ⌜ now (place .exit) ≡ endingPlace (ran .ending) ⌝ }
-    ensures { λ _. ⌜ now (rounds .exit) ≡ ran .rounds ⌝ }
+    ensures { λ r. ⌜ defs.numbersOf ran
+        ≡ record { reason = r; turns = now (turns .exit); place = now (place .exit); rounds = now (rounds .exit) } ⌝ }
 {
     let ending = ran.ending;
     *turns = ran.turns;
@@ -173,12 +164,13 @@ pub extern "C" fn tungwaff_run(
     place: &mut usize,
     rounds: &mut u32,
 ) -> u8
-    ensures { λ r. ⌜ r ≡ endingReason (defs.tasksRan (defs.freshly (defs.inputsFrom kind n modulus (now (parents .entry)) (now (starts .entry)) (now (works .entry)))) (now (schedule .entry)) allowance (now (log .entry)) (now (tasks .entry)) .ending) ⌝ }
-    ensures { λ _. ⌜ now (turns .exit) ≡ defs.tasksRan (defs.freshly (defs.inputsFrom kind n modulus (now (parents .entry)) (now (starts .entry)) (now (works .entry)))) (now (schedule .entry)) allowance (now (log .entry)) (now (tasks .entry)) .turns ⌝ }
-    ensures { λ _. ⌜ now (place .exit) ≡ endingPlace (defs.tasksRan (defs.freshly (defs.inputsFrom kind n modulus (now (parents .entry)) (now (starts .entry)) (now (works .entry)))) (now (schedule .entry)) allowance (now (log .entry)) (now (tasks .entry)) .ending) ⌝ }
-    ensures { λ _. ⌜ now (rounds .exit) ≡ defs.tasksRan (defs.freshly (defs.inputsFrom kind n modulus (now (parents .entry)) (now (starts .entry)) (now (works .entry)))) (now (schedule .entry)) allowance (now (log .entry)) (now (tasks .entry)) .rounds ⌝ }
-    ensures { λ _. ⌜ now (log .exit) ≡ defs.tasksLog (defs.freshly (defs.inputsFrom kind n modulus (now (parents .entry)) (now (starts .entry)) (now (works .entry)))) (now (schedule .entry)) allowance (now (log .entry)) (now (tasks .entry)) ⌝ }
-    ensures { λ _. ⌜ now (tasks .exit) ≡ defs.tasksFrom (defs.freshly (defs.inputsFrom kind n modulus (now (parents .entry)) (now (starts .entry)) (now (works .entry)))) (now (schedule .entry)) allowance (now (log .entry)) (now (tasks .entry)) ⌝ }
+    ensures { λ r. ⌜ defs.runTold (defs.inputsFrom kind n modulus (now (parents .entry)) (now (starts .entry)) (now (works .entry)))
+        (now (schedule .entry)) allowance (now (log .entry)) (now (tasks .entry))
+        ≡ record {
+          numbers = record { reason = r; turns = now (turns .exit); place = now (place .exit); rounds = now (rounds .exit) };
+          log = now (log .exit);
+          tasks = now (tasks .exit);
+        } ⌝ }
 {
     let begun = freshly(Setup { kind, n, modulus }, parents, starts, works);
     let ran = run_tasks(begun, schedule, allowance, log, tasks);
@@ -198,13 +190,13 @@ pub extern "C" fn tungwaff_resume(
     place: &mut usize,
     rounds: &mut u32,
 ) -> u8
-    ensures { λ r. ⌜ r ≡ endingReason (defs.tasksRan (defs.keptIn (now (list .entry))) (now (schedule .entry)) allowance (now (log .entry)) (now (tasks .entry)) .ending) ⌝ }
-    ensures { λ _. ⌜ now (turns .exit) ≡ defs.tasksRan (defs.keptIn (now (list .entry))) (now (schedule .entry)) allowance (now (log .entry)) (now (tasks .entry)) .turns ⌝ }
-    ensures { λ _. ⌜ now (place .exit) ≡ endingPlace (defs.tasksRan (defs.keptIn (now (list .entry))) (now (schedule .entry)) allowance (now (log .entry)) (now (tasks .entry)) .ending) ⌝ }
-    ensures { λ _. ⌜ now (rounds .exit) ≡ defs.tasksRan (defs.keptIn (now (list .entry))) (now (schedule .entry)) allowance (now (log .entry)) (now (tasks .entry)) .rounds ⌝ }
-    ensures { λ _. ⌜ now (log .exit) ≡ defs.tasksLog (defs.keptIn (now (list .entry))) (now (schedule .entry)) allowance (now (log .entry)) (now (tasks .entry)) ⌝ }
-    ensures { λ _. ⌜ now (tasks .exit) ≡ defs.tasksFrom (defs.keptIn (now (list .entry))) (now (schedule .entry)) allowance (now (log .entry)) (now (tasks .entry)) ⌝ }
-    ensures { λ _. ⌜ now (list .exit) ≡ defs.keptAfter (defs.tasksRan (defs.keptIn (now (list .entry))) (now (schedule .entry)) allowance (now (log .entry)) (now (tasks .entry))) (now (list .entry)) ⌝ }
+    ensures { λ r. ⌜ defs.resumeTold (now (list .entry)) (now (schedule .entry)) allowance (now (log .entry)) (now (tasks .entry))
+        ≡ record {
+          numbers = record { reason = r; turns = now (turns .exit); place = now (place .exit); rounds = now (rounds .exit) };
+          log = now (log .exit);
+          tasks = now (tasks .exit);
+          list = now (list .exit);
+        } ⌝ }
 {
     let begun = kept_in(list);
     let ran = run_tasks(begun, schedule, allowance, log, tasks);
@@ -225,13 +217,13 @@ pub extern "C" fn tungwaff_rows(
     place: &mut usize,
     rounds: &mut u32,
 ) -> u8
-    ensures { λ r. ⌜ r ≡ endingReason (defs.rowsRan (defs.keptIn (now (list .entry))) (now (schedule .entry)) allowance (now (log .entry)) (now (rows .entry)) .ending) ⌝ }
-    ensures { λ _. ⌜ now (turns .exit) ≡ defs.rowsRan (defs.keptIn (now (list .entry))) (now (schedule .entry)) allowance (now (log .entry)) (now (rows .entry)) .turns ⌝ }
-    ensures { λ _. ⌜ now (place .exit) ≡ endingPlace (defs.rowsRan (defs.keptIn (now (list .entry))) (now (schedule .entry)) allowance (now (log .entry)) (now (rows .entry)) .ending) ⌝ }
-    ensures { λ _. ⌜ now (rounds .exit) ≡ defs.rowsRan (defs.keptIn (now (list .entry))) (now (schedule .entry)) allowance (now (log .entry)) (now (rows .entry)) .rounds ⌝ }
-    ensures { λ _. ⌜ now (log .exit) ≡ defs.rowsLog (defs.keptIn (now (list .entry))) (now (schedule .entry)) allowance (now (log .entry)) (now (rows .entry)) ⌝ }
-    ensures { λ _. ⌜ now (rows .exit) ≡ defs.rowsFrom (defs.keptIn (now (list .entry))) (now (schedule .entry)) allowance (now (log .entry)) (now (rows .entry)) ⌝ }
-    ensures { λ _. ⌜ now (list .exit) ≡ defs.keptAfter (defs.rowsRan (defs.keptIn (now (list .entry))) (now (schedule .entry)) allowance (now (log .entry)) (now (rows .entry))) (now (list .entry)) ⌝ }
+    ensures { λ r. ⌜ defs.rowsTold (now (list .entry)) (now (schedule .entry)) allowance (now (log .entry)) (now (rows .entry))
+        ≡ record {
+          numbers = record { reason = r; turns = now (turns .exit); place = now (place .exit); rounds = now (rounds .exit) };
+          log = now (log .exit);
+          rows = now (rows .exit);
+          list = now (list .exit);
+        } ⌝ }
 {
     let begun = kept_in(list);
     let ran = run_rows(begun, schedule, allowance, log, rows);
@@ -256,7 +248,7 @@ fn turn_of(begun: Begun, task: usize) -> Turned
 
 // Who can move; in a state that was refused nobody is asked.
 fn ready_in(begun: Begun) -> Ready
-    ensures { λ r. ⌜ r ≡ defs.readyFrom begun ⌝ }
+    ensures { λ r. ⌜ r ≡ defs.readyKept begun ⌝ }
 {
     let reason = begun.reason;
     if reason != 0 {
@@ -276,17 +268,15 @@ pub extern "C" fn tungwaff_turn(
     moved: &mut u8,
     closed: &mut u8,
 ) -> u8
-    ensures { λ r. ⌜ r ≡ reasonNumber (defs.turnedFrom (defs.keptIn (now (list .entry))) task .outcome) ⌝ }
-    ensures { λ _. ⌜ now (moved .exit) ≡ turnNumber (defs.turnedFrom (defs.keptIn (now (list .entry))) task .outcome) ⌝ }
-    ensures { λ _. ⌜ now (closed .exit) ≡ turnClosed (defs.turnedFrom (defs.keptIn (now (list .entry))) task .outcome) ⌝ }
-    ensures { λ _. ⌜ now (list .exit) ≡ defs.turnList (now (list .entry)) task ⌝ }
+    ensures { λ r. ⌜ defs.turnTold (now (list .entry)) task
+        ≡ record { reason = r; moved = now (moved .exit); closed = now (closed .exit); list = now (list .exit) } ⌝ }
 {
     let begun = kept_in(list);
     let turned = turn_of(begun, task);
     let outcome = turned.outcome;
     *moved = numbers::turn_number(outcome);
     *closed = numbers::turn_closed(outcome);
-    let reason = numbers::turn_reason(outcome);
+    let reason = outcome.reason();
     if reason == 0 {
         save(turned.state, list);
     }
@@ -297,8 +287,7 @@ pub extern "C" fn tungwaff_turn(
 // can move, 64 if nobody can, and 0 where it was refused.
 #[no_mangle]
 pub extern "C" fn tungwaff_ready(list: &[u64], task: &mut usize) -> u8
-    ensures { λ r. ⌜ r ≡ readyReason (defs.readyFrom (defs.keptIn (now (list .entry)))) ⌝ }
-    ensures { λ _. ⌜ now (task .exit) ≡ readyNumber (defs.readyFrom (defs.keptIn (now (list .entry)))) ⌝ }
+    ensures { λ r. ⌜ defs.readyTold (now (list .entry)) ≡ record { reason = r; task = now (task .exit) } ⌝ }
 {
     let ready = ready_in(kept_in(list));
     *task = numbers::ready_number(ready);
@@ -315,10 +304,8 @@ pub extern "C" fn tungwaff_passes(
     count: &mut usize,
     place: &mut usize,
 ) -> u8
-    ensures { λ r. ⌜ r ≡ passesReason (passesAnswer n (now (schedule .entry)) (length (now (pairs .entry)))) ⌝ }
-    ensures { λ _. ⌜ now (count .exit) ≡ passesCount (passesAnswer n (now (schedule .entry)) (length (now (pairs .entry)))) ⌝ }
-    ensures { λ _. ⌜ now (place .exit) ≡ passesPlace (passesAnswer n (now (schedule .entry)) (length (now (pairs .entry)))) ⌝ }
-    ensures { λ _. ⌜ now (pairs .exit) ≡ pairsAfter n (now (schedule .entry)) (now (pairs .entry)) ⌝ }
+    ensures { λ r. ⌜ defs.passesTold n (now (schedule .entry)) (now (pairs .entry))
+        ≡ record { reason = r; count = now (count .exit); place = now (place .exit); pairs = now (pairs .exit) } ⌝ }
 {
     let answer = schedule::passes(n, schedule, pairs);
     *count = numbers::passes_count(answer);
@@ -338,8 +325,7 @@ pub extern "C" fn tungwaff_first_pass(n: usize, schedule: &[u8], place: usize) -
 // Writes a shape's table of parents. Answers the reason that refused the call, 0 if it was not refused.
 #[no_mangle]
 pub extern "C" fn tungwaff_shape(shape: usize, n: usize, table: &mut [u8]) -> u8
-    ensures { λ r. ⌜ r ≡ shapeOf shape n (length (now (table .entry))) ⌝ }
-    ensures { λ _. ⌜ now (table .exit) ≡ tableAfter shape n (now (table .entry)) ⌝ }
+    ensures { λ r. ⌜ defs.shapeTold shape n (now (table .entry)) ≡ record { reason = r; table = now (table .exit) } ⌝ }
 {
     let shaped = parents::shape(shape, n, table);
     numbers::shape_reason(shaped)
@@ -359,9 +345,8 @@ pub extern "C" fn tungwaff_play(
     agrees: &mut u8,
     index: &mut usize,
 ) -> u8
-    ensures { λ r. ⌜ r ≡ verdictReason (playOf (defs.inputsFrom kind n modulus (now (parents .entry)) (now (starts .entry)) (now (works .entry))) (now (trace .entry)) .verdict) ⌝ }
-    ensures { λ _. ⌜ now (agrees .exit) ≡ verdictAgrees (playOf (defs.inputsFrom kind n modulus (now (parents .entry)) (now (starts .entry)) (now (works .entry))) (now (trace .entry)) .verdict) ⌝ }
-    ensures { λ _. ⌜ now (index .exit) ≡ verdictIndex (playOf (defs.inputsFrom kind n modulus (now (parents .entry)) (now (starts .entry)) (now (works .entry))) (now (trace .entry)) .verdict) ⌝ }
+    ensures { λ r. ⌜ defs.playTold (defs.inputsFrom kind n modulus (now (parents .entry)) (now (starts .entry)) (now (works .entry))) (now (trace .entry))
+        ≡ record { reason = r; agrees = now (agrees .exit); index = now (index .exit) } ⌝ }
 {
     let played = playback::play(Setup { kind, n, modulus }, parents, starts, works, trace);
     let verdict = played.verdict;
@@ -373,8 +358,7 @@ pub extern "C" fn tungwaff_play(
 // The passes that demand 3 promises to raise the least count. Answers the reason that refused the call, 0 if it was not refused.
 #[no_mangle]
 pub extern "C" fn tungwaff_limit(kind: usize, n: usize, works: &[u8], passes: &mut usize) -> u8
-    ensures { λ r. ⌜ r ≡ limitOf kind n (now (works .entry)) .reason ⌝ }
-    ensures { λ _. ⌜ now (passes .exit) ≡ limitOf kind n (now (works .entry)) .passes ⌝ }
+    ensures { λ r. ⌜ limitOf kind n (now (works .entry)) ≡ record { reason = r; passes = now (passes .exit) } ⌝ }
 {
     let promised = bound::limit(kind, n, works);
     *passes = promised.passes;
@@ -395,15 +379,20 @@ pub extern "C" fn tungwaff_read(
     turns: &mut usize,
     place: &mut usize,
 ) -> u8
-    ensures { λ r. ⌜ r ≡ saidOf (readWithin (now (text .entry)) (length (now (parents .entry))) (length (now (schedule .entry)))) .reason ⌝ }
-    ensures { λ _. ⌜ now (kind .exit) ≡ saidOf (readWithin (now (text .entry)) (length (now (parents .entry))) (length (now (schedule .entry)))) .kind ⌝ }
-    ensures { λ _. ⌜ now (n .exit) ≡ saidOf (readWithin (now (text .entry)) (length (now (parents .entry))) (length (now (schedule .entry)))) .n ⌝ }
-    ensures { λ _. ⌜ now (modulus .exit) ≡ saidOf (readWithin (now (text .entry)) (length (now (parents .entry))) (length (now (schedule .entry)))) .modulus ⌝ }
-    ensures { λ _. ⌜ now (entries .exit) ≡ saidOf (readWithin (now (text .entry)) (length (now (parents .entry))) (length (now (schedule .entry)))) .parents ⌝ }
-    ensures { λ _. ⌜ now (turns .exit) ≡ saidOf (readWithin (now (text .entry)) (length (now (parents .entry))) (length (now (schedule .entry)))) .turns ⌝ }
-    ensures { λ _. ⌜ now (place .exit) ≡ saidOf (readWithin (now (text .entry)) (length (now (parents .entry))) (length (now (schedule .entry)))) .place ⌝ }
-    ensures { λ _. ⌜ now (parents .exit) ≡ parentsIn (readWithin (now (text .entry)) (length (now (parents .entry))) (length (now (schedule .entry)))) (now (parents .entry)) ⌝ }
-    ensures { λ _. ⌜ now (schedule .exit) ≡ turnsIn (readWithin (now (text .entry)) (length (now (parents .entry))) (length (now (schedule .entry)))) (now (schedule .entry)) ⌝ }
+    ensures { λ r. ⌜ defs.readTold (now (text .entry)) (now (parents .entry)) (now (schedule .entry))
+        ≡ record {
+          said = record {
+            reason = r;
+            place = now (place .exit);
+            kind = now (kind .exit);
+            n = now (n .exit);
+            modulus = now (modulus .exit);
+            parents = now (entries .exit);
+            turns = now (turns .exit);
+          };
+          parents = now (parents .exit);
+          schedule = now (schedule .exit);
+        } ⌝ }
 {
     let said = reader::read(text, parents, schedule);
     *kind = said.kind;
@@ -418,8 +407,7 @@ pub extern "C" fn tungwaff_read(
 // Prints the sheet of a text to the page, with zeros after it, and answers how many bytes it has.
 #[no_mangle]
 pub extern "C" fn tungwaff_sheet(text: &[u8], page: &mut [u8; 2048]) -> usize
-    ensures { λ r. ⌜ r ≡ length (sheetOf (now (text .entry))) ⌝ }
-    ensures { λ _. ⌜ now (page .exit) ≡ pageOf (now (text .entry)) ⌝ }
+    ensures { λ r. ⌜ defs.sheetTold (now (text .entry)) ≡ record { length = r; page = now (page .exit) } ⌝ }
 {
     let sheet = sheet_text::sheet(text);
     let bytes = sheet.bytes;

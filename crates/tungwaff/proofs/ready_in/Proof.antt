@@ -3,16 +3,16 @@ use borrow.Author.Needs.{needs}
 use borrow.Author.Tests.{eq-eqb, ne-eqb}
 use mathlib.Core.Path.{ap}
 use Rattle.machine.specs.declared.Readied.{Readied}
-use Rattle.tungwaff.specs.Entry.{readyFrom}
+use Rattle.tungwaff.specs.Entry.{readyKept}
 use Rattle.tungwaff.proofs.ready_in.Statement.{statement}
 use Rattle.tungwaff.proofs.ready_in.Tie as tie
 
 returns : tie.Need-returns
-unfolding readyFrom
+unfolding readyKept
 returns c = rw (ne-eqb (c .before .args .begun .reason) 0 (c .if1 .taken))
 
 returns-2 : tie.Need-returns-2
-unfolding readyFrom
+unfolding readyKept
 returns-2 c =
     let e = c .before .before in
     rw (eq-eqb (e .before .args .begun .reason) 0 (e .if1 .left)) (ap (λ (r : Readied). r .ready) (c .ready .ensures))

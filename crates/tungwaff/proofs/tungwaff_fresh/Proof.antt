@@ -24,7 +24,7 @@ unfolding freshList
 returns c =
     let f = c .before in
     let bad = ne-eqb (freshOf (inputs f) .reason) 0 (λ z. c .if1 .taken (why f ∙ z)) in
-    (rw bad (why f), rw bad)
+    rw (why f, bad)
 
 returns-2 : tie.Need-returns-2
 unfolding freshList
@@ -34,7 +34,7 @@ returns-2 c =
     let f = e .before in
     let good = eq-eqb (freshOf (inputs f) .reason) 0 (sym (why f) ∙ e .if1 .left) in
     let saved = ap (λ (b : Begun). savedTo (b .state) (start f .args .list .now)) (f .freshly .ensures) in
-    (rw good (s .save .ensures .0), rw good (s .save .ensures .1 ∙ saved))
+    rw (s .save .ensures .0, s .save .ensures .1, saved, good)
 
 pub tungwaff-fresh-spec : {M : Type 1} → statement M
 tungwaff-fresh-spec = tie.close (tie.spec (λ c κs. search needs) returns (λ c κs. search needs) (λ c. search needs) returns-2)

@@ -1,13 +1,11 @@
 -- `tungwaff_resume` meets its contract: what is told of the run, and what it has written.
 use borrow.Author.Needs.{needs}
-use mathlib.Core.Path.{_≡_, ap, _∙_}
+use mathlib.Core.Path.{_≡_, sym, ap, _∙_}
 use mathlib.Core.List.{List}
 use Prim.Native.Nat.{ℕ}
 use Rattle.runner.specs.declared.Ran.{Ran}
-use Rattle.runner.specs.Run.{endingReason}
-use Rattle.numbers.specs.Numbers.{endingPlace}
 use Rattle.tungwaff.specs.declared.Begun.{Begun}
-use Rattle.tungwaff.specs.Entry.{keptIn, tasksFrom, tasksRan, tasksLog, keptAfter}
+use Rattle.tungwaff.specs.Entry.{keptIn, tasksFrom, tasksRan, tasksLog, keptAfter, numbersOf}
 use Rattle.tungwaff.proofs.tungwaff_resume.Statement.{statement}
 use Rattle.tungwaff.proofs.tungwaff_resume.Tie as tie
 
@@ -44,19 +42,9 @@ returns : tie.Need-returns
 returns c =
     let k = c .before .before .before .before .before .before in
     let r = k .before .before .before .before .before .before in
-    let e = c .tell .ensures in (
-      e .0 ∙ ap (λ (x : Ran). endingReason (x .ending)) (ran r),
-      (
-        e .1 .0 ∙ ap (λ (x : Ran). x .turns) (ran r),
-        (
-          e .1 .1 .0 ∙ ap (λ (x : Ran). endingPlace (x .ending)) (ran r),
-          (
-            e .1 .1 .1 ∙ ap (λ (x : Ran). x .rounds) (ran r),
-            (logged r, (listed r, k .keep .ensures ∙ ap (λ (x : Ran). keptAfter x (start r .args .list .now)) (ran r))),
-          ),
-        ),
-      ),
-    )
+    let numbers = ap numbersOf (sym (ran r)) ∙ c .tell .ensures in
+    let kept = k .keep .ensures ∙ ap (λ (x : Ran). keptAfter x (start r .args .list .now)) (ran r) in
+    λ i. record { numbers = numbers i; log = sym (logged r) i; tasks = sym (listed r) i; list = sym kept i }
 
 pub tungwaff-resume-spec : {M : Type 1} → statement M
 tungwaff-resume-spec = tie.close (tie.spec (λ c κs. search needs) (λ c κs. search needs) (λ c κs. search needs) (λ c κs. search needs) (λ c. search needs) (λ c. search needs) (λ c. search needs) returns)

@@ -4,7 +4,7 @@ use Rattle.tungwaff.proofs.tungwaff_sheet.Statement.{statement}
 use Rattle.tungwaff.proofs.tungwaff_sheet.Tie as tie
 
 returns : tie.Need-returns
-returns c = (c .before .sheet .ensures .0, c .before .sheet .ensures .1)
+returns c = let e = c .before .sheet .ensures in rw (e .0, e .1)
 
 pub tungwaff-sheet-spec : {M : Type 1} → statement M
 tungwaff-sheet-spec = tie.close (tie.spec (λ c κs. search needs) returns)

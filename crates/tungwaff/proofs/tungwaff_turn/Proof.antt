@@ -11,7 +11,7 @@ use Rattle.tungwaff.specs.Entry.{keptIn, turnedFrom, turnList}
 use Rattle.tungwaff.proofs.tungwaff_turn.Statement.{statement}
 use Rattle.tungwaff.proofs.tungwaff_turn.Tie as tie
 
-module _ (c : tie.After-turn-reason) where
+module _ (c : tie.After-reason) where
   abbrev closing : tie.After-turn-closed
   closing = c .before
 
@@ -30,8 +30,8 @@ module _ (c : tie.After-turn-reason) where
   turned : turning .turn-of .result ≡ made
   turned = turning .turn-of .ensures ∙ ap (λ (b : Begun). turnedFrom b (start .args .task)) (turning .before .kept-in .ensures)
 
-  reason : c .turn-reason .result ≡ reasonNumber (made .outcome)
-  reason = c .turn-reason .ensures ∙ ap (λ (t : Turned). reasonNumber (t .outcome)) turned
+  reason : c .reason .result ≡ reasonNumber (made .outcome)
+  reason = c .reason .ensures ∙ ap (λ (t : Turned). reasonNumber (t .outcome)) turned
 
   moved : numbered .turn-number .result ≡ turnNumber (made .outcome)
   moved = numbered .turn-number .ensures ∙ ap (λ (t : Turned). turnNumber (t .outcome)) turned
@@ -46,14 +46,15 @@ returns c =
     let t = s .before .before in
     let r = t .before in
     let good = eq-eqb (reasonNumber (made r .outcome)) 0 (sym (reason r) ∙ t .if1 .taken) in
-    (reason r, (moved r, (closed r, rw good (s .save .ensures .1 ∙ ap (λ (x : Turned). savedTo (x .state) (start r .args .list .now)) (turned r)))))
+    let saved = s .save .ensures .1 ∙ ap (λ (x : Turned). savedTo (x .state) (start r .args .list .now)) (turned r) in
+    rw good (λ i. record { reason = sym (reason r) i; moved = sym (moved r) i; closed = sym (closed r) i; list = sym saved i })
 
 returns-2 : tie.Need-returns-2
 unfolding turnList
 returns-2 c =
     let r = c .before in
     let bad = ne-eqb (reasonNumber (made r .outcome)) 0 (λ z. c .if1 .left (reason r ∙ z)) in
-    (reason r, (moved r, (closed r, rw bad)))
+    rw bad (λ i. record { reason = sym (reason r) i; moved = sym (moved r) i; closed = sym (closed r) i; list = start r .args .list .now })
 
 pub tungwaff-turn-spec : {M : Type 1} → statement M
 tungwaff-turn-spec = tie.close (tie.spec (λ c κs. search needs) (λ c κs. search needs) (λ c κs. search needs) (λ c κs. search needs) (λ c κs. search needs) (λ c κs. search needs) (λ c. search needs) returns (λ c. search needs) returns-2)
