@@ -1,6 +1,7 @@
 // Sets of tasks 0 to 63 in a u64, a bit a task. Every function is total: a task of 64 or more is in no set, and putting it on
 // changes nothing. What each answers is defined in specs/Set.antt; the laws are in specs/SetLaws.antt.
 ghost use mathlib.Core.Path.{_≡_};
+ghost use Prim.Native.Nat.{min};
 ghost use Rattle.bitset.specs.Tasks.{isCount};
 ghost use Rattle.bitset.specs.Set.{memberOf, leastOf, firstOf, withoutOf, withOf, allOf, withinOf, sizeOf};
 
@@ -83,4 +84,11 @@ pub fn size(list: u64) -> usize
     ensures { λ r. ⌜ r ≡ sizeOf list ⌝ }
 {
     u64::count_ones(list) as usize
+}
+
+// The smaller of two numbers, for the crates above, which share it.
+pub fn smaller(a: usize, b: usize) -> usize
+    ensures { λ r. ⌜ r ≡ min a b ⌝ }
+{
+    if a < b { a } else { b }
 }

@@ -62,6 +62,16 @@ impl Outcome {
             Act::Refuses(reason) => Outcome::Refused(reason),
         }
     }
+
+    // The reason that refused a turn; 0 where none did.
+    pub fn reason(self) -> u8
+        ensures { λ r. ⌜ r ≡ defs.reasonNumber self ⌝ }
+    {
+        match self {
+            Outcome::Made(_) => 0,
+            Outcome::Refused(reason) => reason,
+        }
+    }
 }
 
 impl State {

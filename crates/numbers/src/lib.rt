@@ -8,7 +8,7 @@ use playback::Verdict;
 use runner::Ending;
 use schedule::answer::Passes;
 ghost use mathlib.Core.Path.{_≡_};
-ghost use Rattle.machine.specs.Turn.{closedNumber, reasonNumber};
+ghost use Rattle.machine.specs.Turn.{closedNumber};
 ghost use Rattle.machine.specs.Ready.{readyReason, readyNumber};
 ghost use Rattle.runner.specs.Run.{endingReason};
 ghost use Rattle.playback.specs.Playback.{verdictReason, verdictAgrees, verdictIndex};
@@ -37,16 +37,6 @@ pub fn ending_place(ending: Ending) -> usize
         Ending::Spent => 0,
         Ending::Stopped(_) => 0,
         Ending::Refused(_, place) => place,
-    }
-}
-
-// The reason that refused a turn.
-pub fn turn_reason(outcome: Outcome) -> u8
-    ensures { λ r. ⌜ r ≡ reasonNumber outcome ⌝ }
-{
-    match outcome {
-        Outcome::Made(_) => 0,
-        Outcome::Refused(reason) => reason,
     }
 }
 

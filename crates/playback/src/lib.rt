@@ -3,7 +3,7 @@
 use machine::Setup;
 use machine::State;
 ghost use mathlib.Core.Path.{_≡_};
-ghost use Prim.Native.Nat.{_*_, _%_, _≤_, min};
+ghost use Prim.Native.Nat.{_*_, _%_, _≤_};
 ghost use lib.ListN.{length, take};
 ghost use Rattle.machine.specs.Fresh.{inputsOf};
 ghost use Rattle.machine.specs.Range.{Valid};
@@ -106,13 +106,6 @@ fn play_part(state: State, trace: &[u8]) -> Part
     }
 }
 
-// The smaller of two numbers.
-fn smaller(a: usize, b: usize) -> usize
-    ensures { λ r. ⌜ r ≡ min a b ⌝ }
-{
-    if a < b { a } else { b }
-}
-
 // Plays a trace of whole triples from a state in range, part by part, so that of a trace that differs only one part is run twice.
 fn play_from(state: State, trace: &[u8]) -> Played
     requires { ⌜ Valid state ⌝ }
@@ -122,7 +115,7 @@ fn play_from(state: State, trace: &[u8]) -> Played
     let mut reached = state;
     let mut at = 0;
     while at < trace.len() {
-        let end = smaller(at + 3 * PART, trace.len());
+        let end = bitset::smaller(at + 3 * PART, trace.len());
         let part = play_part(reached, &trace[at..end]);
         reached = part.state;
         if part.same < (end - at) / 3 {

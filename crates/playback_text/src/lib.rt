@@ -8,10 +8,8 @@ use playback::Verdict;
 use text::print;
 use text::read::Found;
 ghost use mathlib.Core.Path.{_≡_};
-ghost use mathlib.Core.List.{map};
 ghost use Prim.Native.Nat.{_≤_, _<_};
 ghost use lib.ListN.{length, getD, take, drop};
-ghost use Rattle.text.specs.Numbers.{over};
 ghost use Rattle.text.specs.Page.{Prints};
 ghost use Rattle.machine.specs.Setters.{taskAt};
 ghost use Rattle.machine.specs.Fresh.{inputsOf};
@@ -19,7 +17,7 @@ ghost use Rattle.machine.specs.Turn.{turnOf};
 ghost use Rattle.playback.specs.Playback.{playOf};
 ghost use Rattle.playback_text.specs.Setup.{setupIn};
 ghost use Rattle.playback_text.specs.Answer as defs;
-ghost use Rattle.playback_text.specs.Steps.{lengthByte, Within};
+ghost use Rattle.playback_text.specs.Steps.{Within};
 
 // What is printed, with zeros after it: the bytes of the verdict's line, and those of both lines.
 pub struct Printed {
@@ -36,24 +34,8 @@ fn play_tables(setup: Setup, tables: &[u8], parents: usize, works: &[u8], trace:
     playback::play(setup, &tables[..parents], &tables[parents..], works, trace)
 }
 
-// Writes each work length as a byte to the first places of the buffer; a number that no byte holds is none, and becomes 0, which is none either.
-fn lengths(numbers: &[u32], buffer: &mut [u8])
-    requires { ⌜ length (now numbers) ≤ length (now buffer) ⌝ }
-    ensures { λ r. ⌜ now (buffer .exit) ≡ over (map lengthByte (now (numbers .entry))) (now (buffer .entry)) ⌝ }
-{
-    let mut i = 0;
-    while i < numbers.len() {
-        let x = numbers[i];
-        if x <= 255 {
-            buffer[i] = x as u8;
-        } else {
-            buffer[i] = 0;
-        }
-        i += 1;
-    }
-}
-
-// Plays a trace from the numbers of a setup, of which there are six at least.
+// Plays a trace from the numbers of a setup, of which there are six at least. A work length that no byte holds is none, and becomes 0, which is none
+// either.
 fn play_numbers(numbers: &[u32], trace: &[u8]) -> Played
     requires { ⌜ 6 ≤ length (now numbers) ⌝ }
     requires { ⌜ length (now numbers) ≤ 32768 ⌝ }
@@ -73,9 +55,9 @@ fn play_numbers(numbers: &[u32], trace: &[u8]) -> Played
         return playback::refused(1);
     }
     let mut bytes = [0u8; 32768];
-    text::read::bytes(&numbers[6..6 + tables], &mut bytes);
+    text::read::bytes(&numbers[6..6 + tables], 255, &mut bytes);
     let mut work = [0u8; 32768];
-    lengths(&numbers[6 + tables..], &mut work);
+    text::read::bytes(&numbers[6 + tables..], 0, &mut work);
     play_tables(setup, &bytes[..tables], parents, &work[..works], trace)
 }
 

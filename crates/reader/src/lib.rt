@@ -84,7 +84,7 @@ fn check_numbers(numbers: &[u32]) -> Said
     let n = numbers[1] as usize;
     let modulus = numbers[2] as usize;
     let mut bytes = [0u8; 32768];
-    text::read::bytes(&numbers[3..], &mut bytes);
+    text::read::bytes(&numbers[3..], 255, &mut bytes);
     let count = numbers.len() - 3;
     let first = parent_count(kind, n, count);
     check(Setup { kind, n, modulus }, &bytes[..count], first)
@@ -97,8 +97,8 @@ fn write(numbers: &[u32], first: usize, parents: &mut [u8], schedule: &mut [u8])
     ensures { λ _. ⌜ now (schedule .exit) ≡ over (map low (drop (3 + first) (now (numbers .entry)))) (now (schedule .entry)) ⌝ }
 {
     let turns = 3 + first;
-    text::read::bytes(&numbers[3..turns], parents);
-    text::read::bytes(&numbers[turns..], schedule);
+    text::read::bytes(&numbers[3..turns], 255, parents);
+    text::read::bytes(&numbers[turns..], 255, schedule);
 }
 
 // What is said of a text's numbers; where nothing refuses them, they are written to the buffers.

@@ -7,7 +7,7 @@ use runner::Ran;
 ghost use mathlib.Core.Path.{_≡_};
 ghost use mathlib.Core.List.{_∷_, _++_};
 ghost use mathlib.Core.Bool.{false};
-ghost use Prim.Native.Nat.{ℕ, _*_, _≤_, min};
+ghost use Prim.Native.Nat.{ℕ, _*_, _≤_};
 ghost use lib.ListN.{length, getD, drop};
 ghost use Rattle.machine.specs.Range.{Valid};
 ghost use Rattle.runner.specs.Trace.{nothing, traceOf};
@@ -102,13 +102,6 @@ pub fn by_task(
     }
     write_tasks(ran, n, rows);
     ran
-}
-
-// The smaller of two numbers.
-fn smaller(a: usize, b: usize) -> usize
-    ensures { λ r. ⌜ r ≡ min a b ⌝ }
-{
-    if a < b { a } else { b }
 }
 
 // The line whose move raises a task's count: 12 of the symmetric barrier, 15 of the tree, 13 of the others.
@@ -213,7 +206,7 @@ pub fn by_turn(
     ensures { λ _. ⌜ now (log .exit) ≡ defs.listedLog state (now (schedule .entry)) allowance (now (log .entry)) (defs.turnRoom (now (schedule .entry)) allowance (length (now (rows .entry)))) ⌝ }
     ensures { λ _. ⌜ now (rows .exit) ≡ defs.turnRowsAfter state (now (schedule .entry)) allowance (now (log .entry)) (now (rows .entry)) ⌝ }
 {
-    let count = smaller(allowance, schedule.len());
+    let count = bitset::smaller(allowance, schedule.len());
     if rows.len() / 6 < count {
         return short(state, schedule, log);
     }

@@ -7,13 +7,12 @@ use machine::Outcome;
 use machine::State;
 ghost use mathlib.Core.Path.{_≡_};
 ghost use mathlib.Core.Bool.{true};
-ghost use Prim.Native.Nat.{_*_, _≤_, _<_, min};
+ghost use Prim.Native.Nat.{_*_, _≤_, _<_};
 ghost use lib.ListN.{length, getD, take, set};
 ghost use Rattle.counts.specs.Counts.{leastOf};
 ghost use Rattle.counts.specs.CountsLaws.{KeptOrRaised};
 ghost use Rattle.machine.specs.Range.{Valid, tableOf};
 ghost use Rattle.machine.specs.Least.{countsOf};
-ghost use Rattle.machine.specs.Turn.{reasonNumber};
 ghost use Rattle.schedule.specs.Passes.{maxTurns, allTasks};
 ghost use Rattle.runner.specs.Trace.{traceOf};
 ghost use Rattle.runner.specs.Rise.{NoLess, riseOf};
@@ -38,16 +37,6 @@ pub struct Ran {
     pub waits: [u32; 64],
 }
 
-// The reason of a refused turn.
-fn reason_of(outcome: Outcome) -> u8
-    ensures { λ r. ⌜ r ≡ reasonNumber outcome ⌝ }
-{
-    match outcome {
-        Outcome::Made(_) => 0,
-        Outcome::Refused(reason) => reason,
-    }
-}
-
 // Writes a turn's two bytes at the front of the log's tail.
 fn write_row(tail: &mut [u8], line: u8, moved: u8)
     requires { ⌜ 2 ≤ length (now tail) ⌝ }
@@ -69,13 +58,6 @@ fn rises(before: [u32; 64], after: [u32; 64]) -> [u32; 64]
         q += 1;
     }
     all
-}
-
-// The smaller of two numbers.
-fn smaller(a: usize, b: usize) -> usize
-    ensures { λ r. ⌜ r ≡ min a b ⌝ }
-{
-    if a < b { a } else { b }
 }
 
 // The ending of a run that no refusal stopped.
@@ -178,7 +160,7 @@ fn turns(
         let closed = least.closes(own.count, next.count);
         let outcome = Outcome::of(act, closed, moves, waits);
         let Outcome::Made(how) = outcome else {
-            let ending = Ending::Stopped(reason_of(outcome));
+            let ending = Ending::Stopped(outcome.reason());
             return report(state, ending, i, least.count - old, old_moves, old_waits);
         };
         let moved = how.number();
@@ -231,7 +213,7 @@ pub fn run(state: State, schedule: &[u8], allowance: usize, log: &mut [u8]) -> R
     if place < schedule.len() {
         return refused(state, 9, place);
     }
-    let count = smaller(allowance, schedule.len());
+    let count = bitset::smaller(allowance, schedule.len());
     if log.len() < 2 * count {
         return refused(state, 10, 0);
     }

@@ -2,7 +2,7 @@
 use mathlib.Core.Bool.{Bool, _&&_, _||_}
 use mathlib.Core.List.{List, [], _∷_, _++_}
 use mathlib.Core.Option.{Option, none, some}
-use Prim.Native.Nat.{ℕ, zero, suc, _+_, _-_, _*_, min}
+use Prim.Native.Nat.{ℕ, zero, suc, _+_, _-_, _*_}
 use lib.Dec.{eqb, leb, ltb}
 use lib.ListN.{length, take, drop, replicate}
 use Rattle.bitset.specs.Choice.{pick}
@@ -58,6 +58,10 @@ abbrev pub numbersOver : Option (List ℕ) → List ℕ → List ℕ
 numbersOver none buffer = replicate (length buffer) 0
 numbersOver (some ns) buffer = over ns buffer
 
--- a number as a byte: 255 stands for every larger one
+-- a number as a byte; `wide` stands for every one that no byte holds
+abbrev pub byteOr : ℕ → ℕ → ℕ
+byteOr wide x = pick (leb x 255) x wide
+
+-- with 255 for every larger one
 abbrev pub low : ℕ → ℕ
-low x = min x 255
+low x = byteOr 255 x

@@ -3,12 +3,12 @@ use mathlib.Core.Path.{_≡_, refl, sym, ap, _∙_}
 use mathlib.Core.List.{List, [], _∷_, _++_, map}
 use mathlib.Core.Option.{Option, none, some}
 use Prim.Native.Nat.{ℕ, zero, suc, _+_, _-_, _*_, min, _≤_, _<_}
-use native.Mathlib.Decide.{decLt}
+use native.Mathlib.Decide.{decLe}
 use native.Mathlib.Omega.{arith}
 use lib.Dec.{eqb, leb, ltb}
 use lib.ListN.{length, take, drop, set, getD, length-append, length-take, length-drop, length-map, List·getD-map}
 use lib.Seq.{take-at, take-all, take-nil, ext-getD}
-use borrow.Author.Tests.{lt-ltb, le-ltb, ne-eqb, leb-true}
+use borrow.Author.Tests.{le-ltb, ne-eqb, leb-true, le-leb, lt-leb}
 use Rattle.bitset.specs.ChoiceLaws.{by-test}
 use Rattle.bitset.specs.TasksLaws.{Alike}
 use Rattle.text.specs.declared.read.Found.{Found}
@@ -98,19 +98,26 @@ found-count text buffer after r e a h k c = go (numbersOf text) refl (sym e ∙ 
 
 -- below 256 a number is its own byte
 pub low-same : (x : ℕ) → x ≤ 255 → low x ≡ x
-low-same x h = omega arith
+low-same x h = rw (le-leb x 255 h)
+
+-- and every larger one is 255
+low-wide : (x : ℕ) → 255 < x → low x ≡ 255
+low-wide x h = rw (lt-leb x 255 h)
 
 -- compared with a number up to 255, a byte is as its number
 pub low-below : (x n : ℕ) → n ≤ 255 → ltb (low x) n ≡ ltb x n
-low-below x n h = go (decLt x n)
+low-below x n h = go (decLe x 255)
   where
-    go : Dec (x < n) → ltb (low x) n ≡ ltb x n
-    go (yes l) = lt-ltb (low x) n (omega arith) ∙ sym (lt-ltb x n l)
-    go (no l) = le-ltb (low x) n (omega arith) ∙ sym (le-ltb x n (omega arith))
+    go : Dec (x ≤ 255) → ltb (low x) n ≡ ltb x n
+    go (yes l) = ap (λ (y : ℕ). ltb y n) (low-same x l)
+    go (no l) = ap (λ (y : ℕ). ltb y n) (low-wide x (omega arith)) ∙ le-ltb 255 n h ∙ sym (le-ltb x n (omega arith))
 
 pub low-zero : (x : ℕ) → eqb (low x) 0 ≡ eqb x 0
-low-zero zero = refl
-low-zero (suc x) = ne-eqb (low (suc x)) 0 (λ e. omega arith) ∙ sym (ne-eqb (suc x) 0 (λ e. omega arith))
+low-zero x = go (decLe x 255)
+  where
+    go : Dec (x ≤ 255) → eqb (low x) 0 ≡ eqb x 0
+    go (yes l) = ap (λ (y : ℕ). eqb y 0) (low-same x l)
+    go (no l) = ap (λ (y : ℕ). eqb y 0) (low-wide x (omega arith)) ∙ sym (ne-eqb x 0 (λ e. omega arith))
 
 pub low-list : (xs : List ℕ) → ((i : ℕ) → i < length xs → getD xs i 0 ≤ 255) → map low xs ≡ xs
 low-list xs h =

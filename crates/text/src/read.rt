@@ -2,9 +2,8 @@
 // specs/Numbers.antt.
 ghost use mathlib.Core.Path.{_≡_};
 ghost use mathlib.Core.List.{map};
-ghost use Prim.Native.Nat.{min};
 ghost use lib.ListN.{length, set, replicate};
-ghost use Rattle.text.specs.Numbers.{numbersOf, foundOf, numbersOver, low, over};
+ghost use Rattle.text.specs.Numbers.{numbersOf, foundOf, numbersOver, byteOr, over};
 ghost use Rattle.text.specs.Scan.{Scans};
 
 // What a text holds: so many numbers, or something that is no number.
@@ -87,25 +86,18 @@ pub fn numbers(text: &[u8], buffer: &mut [u32]) -> Found
     Found::Count(count)
 }
 
-// The smaller of two lengths.
-fn shorter(a: usize, b: usize) -> usize
-    ensures { λ r. ⌜ r ≡ min a b ⌝ }
+// Writes each number as a byte, and `wide` for one that no byte holds, to the first places of the buffer, as many as it has room for.
+pub fn bytes(numbers: &[u32], wide: u8, buffer: &mut [u8])
+    ensures { λ r. ⌜ now (buffer .exit) ≡ over (map (byteOr wide) (now (numbers .entry))) (now (buffer .entry)) ⌝ }
 {
-    if a < b { a } else { b }
-}
-
-// Writes each number as a byte, the larger ones as 255, to the first places of the buffer, as many as it has room for.
-pub fn bytes(numbers: &[u32], buffer: &mut [u8])
-    ensures { λ r. ⌜ now (buffer .exit) ≡ over (map low (now (numbers .entry))) (now (buffer .entry)) ⌝ }
-{
-    let count = shorter(numbers.len(), buffer.len());
+    let count = bitset::smaller(numbers.len(), buffer.len());
     let mut i = 0;
     while i < count {
         let x = numbers[i];
-        if x < 255 {
+        if x <= 255 {
             buffer[i] = x as u8;
         } else {
-            buffer[i] = 255;
+            buffer[i] = wide;
         }
         i += 1;
     }

@@ -87,36 +87,36 @@ abbrev ns : tie.After-bytes2 → List ℕ
 ns c = asked (whole c .before) .args .numbers .now
 
 -- the buffers' first places
-tabled : (c : tie.After-bytes2) → take (parents (ns c) + starts (ns c)) (c .bytes2 .last .1 .0) ≡ map low (tables (ns c))
+tabled : (c : tie.After-bytes2) → take (parents (ns c) + starts (ns c)) (c .bytes2 .last .1 .1 .0) ≡ map low (tables (ns c))
 tabled c =
     let s = asked (whole c .before) in
     let n = ns c in
     let k = parents n + starts n in
     let long = whole c .if1 .left in
     let same : 6 + k - 6 ≡ k = omega arith in
-    written-first (map low (tables n)) k 32768 (c .bytes2 .last .1 .0) (rw length-map (length-take-le k (drop 6 n) (omega (arith, length-drop 6 n)))) (omega (arith, s .pre .1))
+    written-first (map low (tables n)) k 32768 (c .bytes2 .last .1 .1 .0) (rw length-map (length-take-le k (drop 6 n) (omega (arith, length-drop 6 n)))) (omega (arith, s .pre .1))
     (rw same at (c .bytes2 .ensures))
 
-table-length : (c : tie.After-bytes2) → length (take (parents (ns c) + starts (ns c)) (c .bytes2 .last .1 .0)) ≡ parents (ns c) + starts (ns c)
+table-length : (c : tie.After-bytes2) → length (take (parents (ns c) + starts (ns c)) (c .bytes2 .last .1 .1 .0)) ≡ parents (ns c) + starts (ns c)
 table-length c =
     let n = ns c in
     let long = whole c .if1 .left in
     ap length (tabled c) ∙ length-map (tables n) low ∙ length-take-le (parents n + starts n) (drop 6 n) (omega (arith, length-drop 6 n))
 
-abbrev first : tie.After-lengths → tie.After-bytes2
+abbrev first : tie.After-bytes4 → tie.After-bytes2
 first c = c .before .before .before .before
 
-worked : (c : tie.After-lengths) → take (getD (ns (first c)) 5 0) (c .lengths .last .1 .0) ≡ map lengthByte (works (ns (first c)))
+worked : (c : tie.After-bytes4) → take (getD (ns (first c)) 5 0) (c .bytes4 .last .1 .1 .0) ≡ map lengthByte (works (ns (first c)))
 worked c =
     let s = asked (whole (first c) .before) in
     let n = ns (first c) in
     let at = 6 + (parents n + starts n) in
     let long = whole (first c) .if1 .left in
     let all = take-all (length n - at) (drop at n) (omega (arith, length-drop at n)) in
-    written-first (map lengthByte (works n)) (getD n 5 0) 32768 (c .lengths .last .1 .0) (rw length-map (omega (arith, length-drop at n))) (omega (arith, s .pre .1))
-    (rw all at (c .lengths .ensures))
+    written-first (map lengthByte (works n)) (getD n 5 0) 32768 (c .bytes4 .last .1 .1 .0) (rw length-map (omega (arith, length-drop at n))) (omega (arith, s .pre .1))
+    (rw all at (c .bytes4 .ensures))
 
-work-length : (c : tie.After-lengths) → length (take (getD (ns (first c)) 5 0) (c .lengths .last .1 .0)) ≡ getD (ns (first c)) 5 0
+work-length : (c : tie.After-bytes4) → length (take (getD (ns (first c)) 5 0) (c .bytes4 .last .1 .1 .0)) ≡ getD (ns (first c)) 5 0
 work-length c =
     let n = ns (first c) in
     let long = whole (first c) .if1 .left in
@@ -169,7 +169,7 @@ returns-2 c =
     let f = first l in
     let s = asked (whole f .before) in
     let a : List ℕ → List ℕ → Played = λ xs ws. playOf (inputsOf (record { kind = getD (ns f) 0 0; n = getD (ns f) 1 0; modulus = getD (ns f) 2 0 }) (take (parents (ns f)) xs) (drop (parents (ns f)) xs) ws) (s .args .trace .now) in
-    c .play-tables .ensures ∙ ap (λ (xs : List ℕ). a xs (take (getD (ns f) 5 0) (l .lengths .last .1 .0))) (tabled f) ∙ ap (a (map low (tables (ns f)))) (worked l) ∙ plays (ns f) (s .args .trace .now) (s .pre .0) (whole f .if1 .left)
+    c .play-tables .ensures ∙ ap (λ (xs : List ℕ). a xs (take (getD (ns f) 5 0) (l .bytes4 .last .1 .1 .0))) (tabled f) ∙ ap (a (map low (tables (ns f)))) (worked l) ∙ plays (ns f) (s .args .trace .now) (s .pre .0) (whole f .if1 .left)
 
 pub play-numbers-spec : {M : Type 1} → statement M
 play-numbers-spec =

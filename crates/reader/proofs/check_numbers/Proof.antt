@@ -51,7 +51,7 @@ abbrev ns : tie.After-bytes2 → List ℕ
 ns c = start c .args .numbers .now
 
 abbrev buffer : tie.After-bytes2 → List ℕ
-buffer c = c .bytes2 .last .1 .0
+buffer c = c .bytes2 .last .1 .1 .0
 
 filled : (c : tie.After-bytes2) → take (length (ns c) - 3) (buffer c) ≡ map low (drop 3 (ns c))
 filled c =

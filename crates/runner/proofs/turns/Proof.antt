@@ -144,7 +144,7 @@ outcome-is c o e =
 
 -- ---- a turn that is refused
 
-abbrev refused : tie.After-reason-of Inv-loop μ-loop → Answered
+abbrev refused : tie.After-reason Inv-loop μ-loop → Answered
 refused c = c .before .before .before
 
 -- ---- a turn that is made: its row, and what it stores
@@ -261,8 +261,8 @@ returns c =
     let a = acted o in
     let t = turn a in
     let why = r .before .enum-told .given in
-    let stop = at.stopped (next t) (a .effect-of .result) (effect-is a) (begun t .args .end) (why .0 .0) (r .reason-of .result) (begun t .args .turns)
-    (t .before .before .least-of .result .count) (outcome-is o _ (why .1)) (r .reason-of .ensures ∙ ap reasonNumber (why .1)) (t .loop-test .taken) (first (t .before)) in
+    let stop = at.stopped (next t) (a .effect-of .result) (effect-is a) (begun t .args .end) (why .0 .0) (r .reason .result) (begun t .args .turns)
+    (t .before .before .least-of .result .count) (outcome-is o _ (why .1)) (r .reason .ensures ∙ ap reasonNumber (why .1)) (t .loop-test .taken) (first (t .before)) in
     (c .report .ensures ∙ stop .0, stop .1)
 
 mul-write-row : tie.Need-mul-write-row Inv-loop μ-loop
