@@ -29,5 +29,5 @@ pub record Works (p : ℕ) (s : State) (ts : List ℕ) : Type 0 where
   pub back : taskAt (afterTurns s ts) p .left ≡ taskAt s p .work
 
 -- the claim, for every state in range
-abbrev pub Claim : Type 0
-Claim = (s : State) → Valid s → (p : ℕ) → p < s .n → taskAt s p .line ≡ 11 → (ts : List ℕ) → Stays p s ts → Works p s ts
+abbrev pub WorkClaim : Type 0
+WorkClaim = (s : State) → Valid s → (p : ℕ) → p < s .n → taskAt s p .line ≡ 11 → (ts : List ℕ) → Stays p s ts → Works p s ts

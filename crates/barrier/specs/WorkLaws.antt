@@ -23,7 +23,7 @@ use Rattle.barrier.specs.View.{viewOf}
 use Rattle.barrier.specs.Barrier.{Able, AllLeft}
 use Rattle.barrier.specs.Times.{moveAt}
 use Rattle.barrier.specs.TimesLaws.{Turns, moves, stays, turns}
-use Rattle.barrier.specs.Work.{Stays, Works, Claim}
+use Rattle.barrier.specs.Work.{Stays, Works, WorkClaim}
 
 -- the line and the moves left
 abbrev place : Task → ℕ × ℕ
@@ -72,7 +72,7 @@ one-turn s p q ok known at ts away rest = go (turns s p q ok)
     go (moves _ able m e) = moved able (m 11 ∙ rw at) (effectOf s p) refl (ap place e)
     go (stays m e) = on s p q at ts (m 11) (ap place e ∙ ap (λ (l : ℕ). (l, t .left)) at) (omega arith) rest
 
-pub works : Claim
+pub works : WorkClaim
 works s ok p known at [] away = absurd (away at)
 works s ok p known at (q ∷ ts) away =
     one-turn s p q ok known at ts (away .1)

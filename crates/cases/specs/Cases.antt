@@ -53,9 +53,9 @@ lines s [] = []
 lines s (p ∷ ts) = taskAt (turnOf s p .state) p .line ∷ lines (turnOf s p .state) ts
 
 -- what each turn answers
-abbrev pub answers : State → List ℕ → List Outcome
-answers s [] = []
-answers s (p ∷ ts) = turnOf s p .outcome ∷ answers (turnOf s p .state) ts
+abbrev pub outcomes : State → List ℕ → List Outcome
+outcomes s [] = []
+outcomes s (p ∷ ts) = turnOf s p .outcome ∷ outcomes (turnOf s p .state) ts
 
 -- moved, with whether it closed a round
 abbrev pub moved : ℕ → Outcome
@@ -85,13 +85,13 @@ pub record Marked : Type 0 where
   pub sheet : (taskAt sheet-end 0 .line ≡ 11) × (taskAt sheet-end 1 .line ≡ 11) × (taskAt sheet-end 0 .count ≡ 1) × (taskAt sheet-end 1 .count ≡ 1)
       × (sheet-end .sense ≡ 0) × (sheet-end .arrivals ≡ 0)
   -- "Ring, N 2, turns 1 1: moved, waited; task 1 at 12."
-  pub ring-waits : (answers (fresh 2 2 0 []) (1 ∷ 1 ∷ []) ≡ moved 0 ∷ waited ∷ []) × (taskAt (after (fresh 2 2 0 []) (1 ∷ 1 ∷ [])) 1 .line ≡ 12)
+  pub ring-waits : (outcomes (fresh 2 2 0 []) (1 ∷ 1 ∷ []) ≡ moved 0 ∷ waited ∷ []) × (taskAt (after (fresh 2 2 0 []) (1 ∷ 1 ∷ [])) 1 .line ≡ 12)
   -- "Ring, N 2, turns 0 0 0 1 1 1 0 0 1 1: all moved; both at 11, counts 1, toggles 0."
-  pub ring-round : (answers (fresh 2 2 0 []) ring-turns ≡ replicate 5 (moved 0) ++ moved 1 ∷ replicate 4 (moved 0))
+  pub ring-round : (outcomes (fresh 2 2 0 []) ring-turns ≡ replicate 5 (moved 0) ++ moved 1 ∷ replicate 4 (moved 0))
       × (taskAt ring-end 0 .line ≡ 11) × (taskAt ring-end 1 .line ≡ 11) × (taskAt ring-end 0 .count ≡ 1) × (taskAt ring-end 1 .count ≡ 1)
       × (taskAt ring-end 0 .toggle ≡ 0) × (taskAt ring-end 1 .toggle ≡ 0)
   -- "Tree, parents 0 0, turns 0 0 0 0: the fourth waited at 14."
-  pub tree-waits : (answers tree-pair (replicate 4 0) ≡ moved 0 ∷ moved 0 ∷ moved 0 ∷ waited ∷ []) × (taskAt (after tree-pair (replicate 4 0)) 0 .line ≡ 14)
+  pub tree-waits : (outcomes tree-pair (replicate 4 0) ≡ moved 0 ∷ moved 0 ∷ moved 0 ∷ waited ∷ []) × (taskAt (after tree-pair (replicate 4 0)) 0 .line ≡ 14)
   -- "Tree, N 1, seven turns: lines 12, 13, 15, 16, 17, 18, 11."
   pub tree-one : lines (fresh 3 1 0 (0 ∷ [])) (replicate 7 0) ≡ 12 ∷ 13 ∷ 15 ∷ 16 ∷ 17 ∷ 18 ∷ 11 ∷ []
   -- "R 2 refused 4, R 3 accepted."

@@ -10,7 +10,7 @@ use Rattle.machine.specs.Setters.{taskAt, withTask, withArrivals}
 use Rattle.machine.specs.Fresh.{allWork}
 use Rattle.machine.specs.Ready.{readyFrom, readyOf}
 use Rattle.parents.specs.Shapes.{shapeOf}
-use Rattle.cases.specs.Cases.{computing, fresh, after, lines, answers, moved, waited}
+use Rattle.cases.specs.Cases.{computing, fresh, after, lines, outcomes, moved, waited}
 use Rattle.cases.specs.Rounds.{edited, sheet-turns}
 use Rattle.cases.specs.Tallied.{movesTo, refused}
 use Rattle.cases.specs.Worked.{reason}
@@ -43,17 +43,17 @@ pub record CountedDown : Type 0 where
       × (words (after two (take 9 sheet-turns)) ≡ 2 ∷ 0 ∷ 0 ∷ 0 ∷ 0 ∷ [])
   -- they lead where kind 1's do, and are answered alike: task 0 to 16, task 1, the last to arrive, to 14
   pub sheet : (lines two sheet-turns ≡ 12 ∷ 13 ∷ 16 ∷ 16 ∷ 12 ∷ 13 ∷ 14 ∷ 15 ∷ 11 ∷ 11 ∷ []) × (lines two sheet-turns ≡ lines (fresh 1 2 0 []) sheet-turns)
-      × (answers two sheet-turns ≡ moved 0 ∷ moved 0 ∷ moved 0 ∷ waited ∷ moved 0 ∷ moved 0 ∷ moved 1 ∷ moved 0 ∷ moved 0 ∷ moved 0 ∷ [])
+      × (outcomes two sheet-turns ≡ moved 0 ∷ moved 0 ∷ moved 0 ∷ waited ∷ moved 0 ∷ moved 0 ∷ moved 1 ∷ moved 0 ∷ moved 0 ∷ moved 0 ∷ [])
   -- in the second round the senses come back to 1
   pub second : words (after (fresh 4 1 0 []) (replicate 10 0)) ≡ 1 ∷ 1 ∷ 1 ∷ 0 ∷ 0 ∷ []
   -- 13: arrivals of 1 lead to 14; with none left it is refused 7, before 11 and 13 and after 9
-  pub arrivals : (lines (arriving 1 0) (0 ∷ []) ≡ 14 ∷ []) × (answers (arriving 0 0) (0 ∷ []) ≡ refused 7 ∷ []) × (answers (arriving 0 1000000) (0 ∷ []) ≡ refused 7 ∷ [])
-      × (answers (movesTo (arriving 0 0) 0 4000000000) (0 ∷ []) ≡ refused 7 ∷ []) × (answers (arriving 1 1000000) (0 ∷ []) ≡ refused 11 ∷ [])
-      × (answers (arriving 0 0) (1 ∷ []) ≡ refused 9 ∷ [])
+  pub arrivals : (lines (arriving 1 0) (0 ∷ []) ≡ 14 ∷ []) × (outcomes (arriving 0 0) (0 ∷ []) ≡ refused 7 ∷ []) × (outcomes (arriving 0 1000000) (0 ∷ []) ≡ refused 7 ∷ [])
+      × (outcomes (movesTo (arriving 0 0) 0 4000000000) (0 ∷ []) ≡ refused 7 ∷ []) × (outcomes (arriving 1 1000000) (0 ∷ []) ≡ refused 11 ∷ [])
+      × (outcomes (arriving 0 0) (1 ∷ []) ≡ refused 9 ∷ [])
   -- arrivals 0 to N; an own sense 0 or 1, and 0 from N on and in kind 1; no aim
-  pub range : (answers (withArrivals two 0) (0 ∷ []) ≡ moved 0 ∷ []) × (answers (withArrivals two 3) (0 ∷ []) ≡ refused 7 ∷ [])
-      × (answers (ownTo two 1 0) (0 ∷ []) ≡ moved 0 ∷ []) × (answers (ownTo two 1 2) (0 ∷ []) ≡ refused 7 ∷ []) × (answers (ownTo two 2 1) (0 ∷ []) ≡ refused 7 ∷ [])
-      × (answers (ownTo (fresh 1 2 0 []) 1 1) (0 ∷ []) ≡ refused 7 ∷ []) × (answers (aimTo two 1 1) (0 ∷ []) ≡ refused 7 ∷ [])
+  pub range : (outcomes (withArrivals two 0) (0 ∷ []) ≡ moved 0 ∷ []) × (outcomes (withArrivals two 3) (0 ∷ []) ≡ refused 7 ∷ [])
+      × (outcomes (ownTo two 1 0) (0 ∷ []) ≡ moved 0 ∷ []) × (outcomes (ownTo two 1 2) (0 ∷ []) ≡ refused 7 ∷ []) × (outcomes (ownTo two 2 1) (0 ∷ []) ≡ refused 7 ∷ [])
+      × (outcomes (ownTo (fresh 1 2 0 []) 1 1) (0 ∷ []) ≡ refused 7 ∷ []) × (outcomes (aimTo two 1 1) (0 ∷ []) ≡ refused 7 ∷ [])
   pub ready : readyOf (after two (replicate 3 0)) .ready ≡ Task 1
   -- 2 admits kind 4 and not 5; R is 0, and there are no parents and no starts; work lengths as for every kind
   pub reasons : (reason 4 2 0 [] [] [] ≡ 0) × (reason 5 2 0 [] [] [] ≡ 2) × (reason 4 2 1 [] [] [] ≡ 4) × (reason 4 2 0 (0 ∷ 0 ∷ []) [] [] ≡ 5)

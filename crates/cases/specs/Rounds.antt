@@ -10,7 +10,7 @@ use Rattle.runner.specs.declared.Ending.the-variants.{Done, Stopped, Refused}
 use Rattle.runner.specs.declared.Ran.{Ran}
 use Rattle.runner.specs.Trace.{traceOf}
 use Rattle.runner.specs.Run.{tallyIn, roundsIn, runReason, runOf}
-use Rattle.cases.specs.Cases.{computing, fresh, answers, moved, waited}
+use Rattle.cases.specs.Cases.{computing, fresh, outcomes, moved, waited}
 
 -- the whole schedule, run with a log that has room for it
 abbrev pub ran : State → List ℕ → Ran
@@ -34,16 +34,16 @@ near-limit = edited (fresh 1 1 0 []) 0 13 999999
 
 pub record Closed : Type 0 where
   -- N 1, every kind: the turn that raises the count closes a round, and no other
-  pub symmetric : answers (fresh 0 1 3 []) (replicate 5 0) ≡ moved 0 ∷ moved 1 ∷ moved 0 ∷ moved 0 ∷ moved 0 ∷ []
-  pub increment : answers (fresh 1 1 0 []) (replicate 5 0) ≡ moved 0 ∷ moved 0 ∷ moved 1 ∷ moved 0 ∷ moved 0 ∷ []
-  pub ring : answers (fresh 2 1 0 []) (replicate 5 0) ≡ moved 0 ∷ moved 0 ∷ moved 1 ∷ moved 0 ∷ moved 0 ∷ []
-  pub tree : answers (fresh 3 1 0 (0 ∷ [])) (replicate 7 0) ≡ moved 0 ∷ moved 0 ∷ moved 0 ∷ moved 1 ∷ moved 0 ∷ moved 0 ∷ moved 0 ∷ []
+  pub symmetric : outcomes (fresh 0 1 3 []) (replicate 5 0) ≡ moved 0 ∷ moved 1 ∷ moved 0 ∷ moved 0 ∷ moved 0 ∷ []
+  pub increment : outcomes (fresh 1 1 0 []) (replicate 5 0) ≡ moved 0 ∷ moved 0 ∷ moved 1 ∷ moved 0 ∷ moved 0 ∷ []
+  pub ring : outcomes (fresh 2 1 0 []) (replicate 5 0) ≡ moved 0 ∷ moved 0 ∷ moved 1 ∷ moved 0 ∷ moved 0 ∷ []
+  pub tree : outcomes (fresh 3 1 0 (0 ∷ [])) (replicate 7 0) ≡ moved 0 ∷ moved 0 ∷ moved 0 ∷ moved 1 ∷ moved 0 ∷ moved 0 ∷ moved 0 ∷ []
   -- the sheet's example: task 0 raises its count in the third turn, task 1 in the seventh, which closes the round
-  pub sheet : answers (fresh 1 2 0 []) sheet-turns ≡ moved 0 ∷ moved 0 ∷ moved 0 ∷ waited ∷ moved 0 ∷ moved 0 ∷ moved 1 ∷ moved 0 ∷ moved 0 ∷ moved 0 ∷ []
+  pub sheet : outcomes (fresh 1 2 0 []) sheet-turns ≡ moved 0 ∷ moved 0 ∷ moved 0 ∷ waited ∷ moved 0 ∷ moved 0 ∷ moved 1 ∷ moved 0 ∷ moved 0 ∷ moved 0 ∷ []
   pub sheet-run : (ran (fresh 1 2 0 []) sheet-turns .rounds ≡ 1) × (ran (fresh 1 2 0 []) sheet-turns .ending ≡ Done)
   -- counts that differ by more than one: only the task that stands at the least count alone closes a round
-  pub spread : (answers (counts 5 7 9) (0 ∷ []) ≡ moved 1 ∷ []) × (answers (counts 5 7 9) (1 ∷ 2 ∷ 0 ∷ []) ≡ moved 0 ∷ moved 0 ∷ moved 1 ∷ [])
-      × (answers (counts 5 5 9) (0 ∷ 1 ∷ []) ≡ moved 0 ∷ moved 1 ∷ []) × (ran (counts 5 5 9) (0 ∷ 1 ∷ 2 ∷ []) .rounds ≡ 1)
+  pub spread : (outcomes (counts 5 7 9) (0 ∷ []) ≡ moved 1 ∷ []) × (outcomes (counts 5 7 9) (1 ∷ 2 ∷ 0 ∷ []) ≡ moved 0 ∷ moved 0 ∷ moved 1 ∷ [])
+      × (outcomes (counts 5 5 9) (0 ∷ 1 ∷ []) ≡ moved 0 ∷ moved 1 ∷ []) × (ran (counts 5 5 9) (0 ∷ 1 ∷ 2 ∷ []) .rounds ≡ 1)
   -- a run that 11 stops keeps the round before it; one that is refused as a whole has none
   pub stopped : (ran near-limit (replicate 6 0) .ending ≡ Stopped 11) × (ran near-limit (replicate 6 0) .turns ≡ 5) × (ran near-limit (replicate 6 0) .rounds ≡ 1)
   pub refused : (ran near-limit (0 ∷ 1 ∷ []) .ending ≡ Refused 9 1) × (ran near-limit (0 ∷ 1 ∷ []) .rounds ≡ 0)

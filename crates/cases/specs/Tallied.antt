@@ -13,7 +13,7 @@ use Rattle.machine.specs.Ready.{readyFrom, readyOf}
 use Rattle.runner.specs.declared.Ending.the-variants.{Stopped, Refused}
 use Rattle.runner.specs.Trace.{traceOf}
 use Rattle.runner.specs.Run.{tallyIn, roundsIn, logOf, runReason, runOf, logAfter}
-use Rattle.cases.specs.Cases.{computing, fresh, after, answers, moved, waited}
+use Rattle.cases.specs.Cases.{computing, fresh, after, outcomes, moved, waited}
 use Rattle.cases.specs.Rounds.{ran, edited, sheet-turns}
 
 -- the tallies of the first two tasks, moves and waits
@@ -47,16 +47,16 @@ pub record Tallied : Type 0 where
   -- a turn that waits changes its tally of waits and nothing else
   pub waiting : turnOf both-at-12 1 .state ≡ waitsTo both-at-12 1 1
   -- one below its limit a tally is raised, at it the turn is refused 13: a move by its tally of moves, a wait by that of waits, neither by the other
-  pub moving : (answers (movesTo two 0 3999999999) (0 ∷ 0 ∷ []) ≡ moved 0 ∷ refused 13 ∷ []) × (answers (waitsTo two 0 4000000000) (0 ∷ []) ≡ moved 0 ∷ [])
-  pub awaiting : (answers (waitsTo both-at-12 1 3999999999) (1 ∷ 1 ∷ []) ≡ waited ∷ refused 13 ∷ [])
-      × (answers (movesTo both-at-12 1 4000000000) (1 ∷ []) ≡ waited ∷ [])
+  pub moving : (outcomes (movesTo two 0 3999999999) (0 ∷ 0 ∷ []) ≡ moved 0 ∷ refused 13 ∷ []) × (outcomes (waitsTo two 0 4000000000) (0 ∷ []) ≡ moved 0 ∷ [])
+  pub awaiting : (outcomes (waitsTo both-at-12 1 3999999999) (1 ∷ 1 ∷ []) ≡ waited ∷ refused 13 ∷ [])
+      × (outcomes (movesTo both-at-12 1 4000000000) (1 ∷ []) ≡ waited ∷ [])
   -- a tally above its limit, or of a task from N on, is out of range
-  pub range : (answers (movesTo two 1 4000000001) (0 ∷ []) ≡ refused 7 ∷ []) × (answers (waitsTo two 1 4000000001) (0 ∷ []) ≡ refused 7 ∷ [])
-      × (answers (movesTo two 2 1) (0 ∷ []) ≡ refused 7 ∷ []) × (answers (waitsTo two 63 1) (0 ∷ []) ≡ refused 7 ∷ [])
+  pub range : (outcomes (movesTo two 1 4000000001) (0 ∷ []) ≡ refused 7 ∷ []) × (outcomes (waitsTo two 1 4000000001) (0 ∷ []) ≡ refused 7 ∷ [])
+      × (outcomes (movesTo two 2 1) (0 ∷ []) ≡ refused 7 ∷ []) × (outcomes (waitsTo two 63 1) (0 ∷ []) ≡ refused 7 ∷ [])
   -- 9, the 7 of line 13 and 11 come before 13
-  pub order : (answers (movesTo two 0 4000000000) (2 ∷ []) ≡ refused 9 ∷ [])
-      × (answers (movesTo (withArrivals (edited (fresh 1 1 0 []) 0 13 0) 1) 0 4000000000) (0 ∷ []) ≡ refused 7 ∷ [])
-      × (answers (movesTo (edited (fresh 1 1 0 []) 0 13 1000000) 0 4000000000) (0 ∷ []) ≡ refused 11 ∷ [])
+  pub order : (outcomes (movesTo two 0 4000000000) (2 ∷ []) ≡ refused 9 ∷ [])
+      × (outcomes (movesTo (withArrivals (edited (fresh 1 1 0 []) 0 13 0) 1) 0 4000000000) (0 ∷ []) ≡ refused 7 ∷ [])
+      × (outcomes (movesTo (edited (fresh 1 1 0 []) 0 13 1000000) 0 4000000000) (0 ∷ []) ≡ refused 11 ∷ [])
   -- ready skips a task whose tally of moves is full, and asks for no tally of waits
   pub ready : (readyOf two .ready ≡ Task 0) × (readyOf (movesTo two 0 4000000000) .ready ≡ Task 1)
       × (readyOf (movesTo (movesTo two 0 4000000000) 1 4000000000) .ready ≡ Nobody) × (readyOf (waitsTo two 0 4000000000) .ready ≡ Task 0)

@@ -12,7 +12,7 @@ use Rattle.machine.specs.Fresh.{inputsOf, taskWith, allWork, freshOf}
 use Rattle.runner.specs.Trace.{traceOf}
 use Rattle.runner.specs.Run.{logOf, runReason, logAfter}
 use Rattle.barrier.specs.Times.{timesAt}
-use Rattle.cases.specs.Cases.{computing, setup, after, lines, answers, moved, waited}
+use Rattle.cases.specs.Cases.{computing, setup, after, lines, outcomes, moved, waited}
 use Rattle.cases.specs.Tallied.{refused}
 
 -- a state with a work table, and the reason of a call with start and work table
@@ -46,7 +46,7 @@ pub record Worked : Type 0 where
   -- fresh, and with no table: all are 1, and from N on 0
   pub begin : (at two 0 ≡ 11 ∷ 3 ∷ 3 ∷ []) × (at two 1 ≡ 11 ∷ 1 ∷ 1 ∷ []) × (at two 2 ≡ 0 ∷ 0 ∷ 0 ∷ []) × (at (fresh 2 2 []) 1 ≡ 11 ∷ 1 ∷ 1 ∷ [])
   -- task 0 makes three moves at 11, task 1 one; the moves left are set back by the third, at 12 already, and stay so
-  pub turns : (answers two (0 ∷ 1 ∷ 1 ∷ 0 ∷ 0 ∷ []) ≡ moved 0 ∷ moved 0 ∷ waited ∷ moved 0 ∷ moved 0 ∷ [])
+  pub turns : (outcomes two (0 ∷ 1 ∷ 1 ∷ 0 ∷ 0 ∷ []) ≡ moved 0 ∷ moved 0 ∷ waited ∷ moved 0 ∷ moved 0 ∷ [])
       × (lines two (0 ∷ 1 ∷ 1 ∷ 0 ∷ 0 ∷ []) ≡ 11 ∷ 12 ∷ 12 ∷ 11 ∷ 12 ∷ [])
       × (at (after two (0 ∷ 0 ∷ [])) 0 ≡ 11 ∷ 3 ∷ 1 ∷ []) × (at (after two (replicate 3 0)) 0 ≡ 12 ∷ 3 ∷ 3 ∷ []) × (at (after two (replicate 5 0)) 0 ≡ 14 ∷ 3 ∷ 3 ∷ [])
   pub times : timesAt 0 11 two (0 ∷ 1 ∷ 0 ∷ 1 ∷ 0 ∷ 0 ∷ []) ≡ 3
@@ -60,9 +60,9 @@ pub record Worked : Type 0 where
       × (reason 0 1 3 [] [] (9 ∷ []) ≡ 0) × (reason 1 1 0 [] [] (9 ∷ []) ≡ 0) × (reason 3 1 0 (0 ∷ []) [] (9 ∷ []) ≡ 0)
   pub order : (reason 0 2 3 [] (0 ∷ 2 ∷ []) (0 ∷ 1 ∷ []) ≡ 12) × (reason 0 2 3 [] (0 ∷ 1 ∷ []) (0 ∷ 1 ∷ []) ≡ 15) × (reason 3 1 0 (1 ∷ []) [] (0 ∷ []) ≡ 6)
   -- moves left of 0 or above the length are out of range, and so is anything from N on; fewer at another line are not
-  pub range : (answers (leftTo two 0 0) (1 ∷ []) ≡ refused 7 ∷ []) × (answers (leftTo two 0 4) (1 ∷ []) ≡ refused 7 ∷ []) × (answers (workTo two 0 2) (1 ∷ []) ≡ refused 7 ∷ [])
-      × (answers (leftTo two 2 1) (1 ∷ []) ≡ refused 7 ∷ []) × (answers (workTo two 63 1) (1 ∷ []) ≡ refused 7 ∷ [])
-      × (answers (leftTo (after two (replicate 3 0)) 0 1) (0 ∷ []) ≡ moved 0 ∷ [])
+  pub range : (outcomes (leftTo two 0 0) (1 ∷ []) ≡ refused 7 ∷ []) × (outcomes (leftTo two 0 4) (1 ∷ []) ≡ refused 7 ∷ []) × (outcomes (workTo two 0 2) (1 ∷ []) ≡ refused 7 ∷ [])
+      × (outcomes (leftTo two 2 1) (1 ∷ []) ≡ refused 7 ∷ []) × (outcomes (workTo two 63 1) (1 ∷ []) ≡ refused 7 ∷ [])
+      × (outcomes (leftTo (after two (replicate 3 0)) 0 1) (0 ∷ []) ≡ moved 0 ∷ [])
 
 pub worked : Worked
 unfolding computing allWork logAfter runReason traceOf logOf

@@ -27,7 +27,7 @@ pub data Wrote (n line : ℕ) : Write → Write → Type 0 where
   turned : {x y : ℕ} → line ≡ 15 → x ≡ y → Wrote n line (Sense x) (Sense y)
 
 -- what two lines do, of tasks at `line`
-pub record Alike (n line sense : ℕ) (e₁ e₄ : Effect) : Type 0 where
+pub record AlikeEffects (n line sense : ℕ) (e₁ e₄ : Effect) : Type 0 where
   pub act : e₁ .act ≡ e₄ .act
   pub task : Matching (e₁ .task) (e₄ .task)
   pub write : Wrote n line (e₁ .write) (e₄ .write)
@@ -44,7 +44,7 @@ module _ (n sense : ℕ) (t : Task) (aim own : ℕ) (equal : Aimed aim t) (outsi
   u = withOwn (withAim t aim) own
 
   abbrev A : Effect → Effect → Type 0
-  A e₁ e₄ = Alike n (t .line) sense e₁ e₄
+  A e₁ e₄ = AlikeEffects n (t .line) sense e₁ e₄
 
   -- a wait, or a refusal
   staying : (a : Act) → A (record { act = a; task = u; write = Nothing }) (record { act = a; task = t; write = Nothing })

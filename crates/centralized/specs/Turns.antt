@@ -28,7 +28,7 @@ use Rattle.barrier.specs.Puts.{at-task, stored}
 use Rattle.increment.specs.Increment.{increment}
 use Rattle.increment.specs.Phases.{at-butler}
 use Rattle.centralized.specs.Coupling.{Outside, Matching, Coupled, Pair}
-use Rattle.centralized.specs.Lines.{Wrote, nothing, arrived, turned, Alike, lines}
+use Rattle.centralized.specs.Lines.{Wrote, nothing, arrived, turned, AlikeEffects, lines}
 
 -- ---- what coupled states have in common
 
@@ -96,10 +96,10 @@ module _ {s₁ s₄ : State} (pair : Pair s₁ s₄) (p : ℕ) (h : p < s₄ .n)
   abbrev e₄ : Effect
   e₄ = effectOf s₄ p
 
-  alike : Alike (s₄ .n) (taskAt s₄ p .line) (s₄ .sense) e₁ e₄
+  alike : AlikeEffects (s₄ .n) (taskAt s₄ p .line) (s₄ .sense) e₁ e₄
   alike =
-      subst (λ (e : Effect). Alike (s₄ .n) (taskAt s₄ p .line) (s₄ .sense) e e₄) (sym (effect-1 s₁ p (pair .first .kind)))
-      (subst (λ (e : Effect). Alike (s₄ .n) (taskAt s₄ p .line) (s₄ .sense) (incrementLine (taskAt s₁ p .line) (s₁ .n) (s₁ .arrivals) (s₁ .sense) (taskAt s₁ p)) e) (sym (effect-4 s₄ p (pair .kind)))
+      subst (λ (e : Effect). AlikeEffects (s₄ .n) (taskAt s₄ p .line) (s₄ .sense) e e₄) (sym (effect-1 s₁ p (pair .first .kind)))
+      (subst (λ (e : Effect). AlikeEffects (s₄ .n) (taskAt s₄ p .line) (s₄ .sense) (incrementLine (taskAt s₁ p .line) (s₁ .n) (s₁ .arrivals) (s₁ .sense) (taskAt s₁ p)) e) (sym (effect-4 s₄ p (pair .kind)))
       (rw (c .n, c .sense, m .same) (lines (s₄ .n) (s₄ .sense) (taskAt s₄ p) (taskAt s₁ p .aim) (taskAt s₁ p .own) (m .aim) (c .outside p h) (s₁ .arrivals) (s₄ .arrivals) (c .arrivals))))
     where
       m : Matching (taskAt s₁ p) (taskAt s₄ p)

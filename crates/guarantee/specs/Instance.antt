@@ -30,7 +30,8 @@ use Rattle.tree.specs.TreeRange.{is-tree}
 use Rattle.tree.specs.Total.{total}
 use Rattle.bound.specs.Bound.{M₁, W, M}
 use Rattle.guarantee.specs.Calls.{worksOf}
-use Rattle.guarantee.specs.Turns.{turned-to, Counts, afterTurns, AllCounted}
+use Rattle.barrier.specs.Work.{afterTurns}
+use Rattle.guarantee.specs.Turns.{turned-to, Counts, after-turns, AllCounted}
 
 -- the barrier of a kind
 unfoldable pub barrierOf : (kind : ℕ) → kind ≤ 3 → Barrier kind
@@ -90,7 +91,7 @@ pub rises : {kind : ℕ} (b : Barrier kind) (s : State) (ts : List ℕ) → Hold
     → CutInto (s .n) (2 * movesOf b s) ts → least s < least (afterTurns s ts)
 unfolding counting
 rises b s ts i low counts cut =
-    progress (counting b (s .n) (movesOf b s)) s ts (record { inv = i; tasks = refl; moves = refl }) low counts cut (le-refl (2 * movesOf b s))
+    rw (← after-turns s ts) (progress (counting b (s .n) (movesOf b s)) s ts (record { inv = i; tasks = refl; moves = refl }) low counts cut (le-refl (2 * movesOf b s)))
 
 -- the moves of the work beyond the first of each task are W
 paper-W : (s : State) → Valid s → sum (s .n) (λ q. taskAt s q .work - 1) ≡ W (s .n) (worksOf s)

@@ -13,7 +13,8 @@ use Rattle.machine.specs.Least.{least}
 use Rattle.bound.specs.Bound.{limitReason, limitOf}
 use Rattle.bound.specs.BoundLaws.{promised-same}
 use Rattle.guarantee.specs.Calls.{Call, afterAll, countedAll, Reached, fresh, called, after, worksOf, promisedIn}
-use Rattle.guarantee.specs.Turns.{afterTurns, leads-all}
+use Rattle.barrier.specs.Work.{afterTurns}
+use Rattle.guarantee.specs.Turns.{leads-all}
 use Rattle.guarantee.specs.Guarantee.{guarantee}
 
 -- no turn changes the kind, N or a work length, so none changes the promise

@@ -21,7 +21,7 @@ use Rattle.barrier.specs.View.{viewOf}
 use Rattle.barrier.specs.Barrier.{AllLeft, Holds}
 use Rattle.barrier.specs.Moves.{fresh-left, keeps-all}
 use Rattle.barrier.specs.Times.{timesAt}
-use Rattle.barrier.specs.Work.{Stays}
+use Rattle.barrier.specs.Work.{Stays, afterTurns}
 use Rattle.barrier.specs.WorkLaws.{all-left, works}
 use Rattle.increment.specs.Safe.{never-7}
 use Rattle.centralized.specs.Coupling.{Pair}
@@ -31,7 +31,7 @@ use Rattle.playback.specs.Playback.{triplesOf, playReason, playOf}
 use Rattle.playback.specs.PlaybackLaws.{play-accepted, play-keeps}
 use Rattle.playback.specs.Claims.{fresh-first}
 use Rattle.guarantee.specs.Calls.{Call, turn, after, afterAll, counted, countedAll, Reached, fresh, called}
-use Rattle.guarantee.specs.Turns.{afterTurns, Leads, leads-call, leads-all}
+use Rattle.guarantee.specs.Turns.{Leads, leads-call, leads-all}
 use Rattle.guarantee.specs.CountsDown.{call-same}
 use Rattle.guarantee.specs.Instance.{barrierOf}
 

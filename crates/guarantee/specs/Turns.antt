@@ -14,6 +14,7 @@ use Rattle.machine.specs.declared.Outcome.{Outcome}
 use Rattle.machine.specs.declared.Outcome.the-variants.{Made, Refused}
 use Rattle.machine.specs.Turn.{turnOf, reasonNumber}
 use Rattle.machine.specs.TurnLaws.{refused-still}
+use Rattle.barrier.specs.Work.{afterTurns}
 use Rattle.progress.specs.Counting.{AllCount}
 use Rattle.progress.specs.Counting
 use Rattle.runner.specs.Trace.{Trace, turned, traceOf, countedIn}
@@ -30,9 +31,10 @@ turned-to s p = turnOf s p .state
 abbrev pub Counts : State → ℕ → Type 0
 Counts s p = (reasonNumber (turnOf s p .outcome) ≡ 0) ⊎ (reasonNumber (turnOf s p .outcome) ≡ 11)
 
--- the state after single turns
-abbrev pub afterTurns : State → List ℕ → State
-afterTurns s ts = Counting.after turned-to s ts
+-- the state after single turns, as the counting argument has it
+pub after-turns : (s : State) (ts : List ℕ) → Counting.after turned-to s ts ≡ afterTurns s ts
+after-turns s [] = refl
+after-turns s (p ∷ ts) = after-turns (turned-to s p) ts
 
 abbrev pub AllCounted : State → List ℕ → Type 0
 AllCounted s ts = AllCount turned-to Counts s ts

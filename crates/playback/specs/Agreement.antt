@@ -13,7 +13,7 @@ use Rattle.runner.specs.Run.{runOf, logAfter}
 use Rattle.playback.specs.Playback.{Triple}
 
 -- a triple equals what the defined turn of its task does in the state s: "task, line before, 1 moved or 0 waited"
-pub record Does (s : State) (t : Triple) : Type 0 where
+pub record Performs (s : State) (t : Triple) : Type 0 where
   pub how : Move
   pub made : turnOf s (t .task) .outcome ≡ Made how
   pub line : t .line ≡ taskAt s (t .task) .line
@@ -32,13 +32,13 @@ tripleIn ts i = getD ts i (record { task = 0; line = 0; how = 0 })
 
 -- every triple equals what the defined turn does from the state that the triples before lead to
 abbrev pub AllDo : State → List Triple → Type 0
-AllDo s ts = (i : ℕ) → i < length ts → Does (ledTo s ts i) (tripleIn ts i)
+AllDo s ts = (i : ℕ) → i < length ts → Performs (ledTo s ts i) (tripleIn ts i)
 
 -- the triples before it do what their turns do, it does not, and the state is the one that those before lead to
 pub record FirstAt (s : State) (ts : List Triple) (k : ℕ) (end : State) : Type 0 where
   pub within : k < length ts
   pub before : AllDo s (take k ts)
-  pub other : Does (ledTo s ts k) (tripleIn ts k) → ⊥
+  pub other : Performs (ledTo s ts k) (tripleIn ts k) → ⊥
   pub state : end ≡ ledTo s ts k
 
 -- a schedule and a log, a task and its turn's two bytes at a time

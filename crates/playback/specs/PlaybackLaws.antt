@@ -27,7 +27,7 @@ use Rattle.runner.specs.Run.{logOf, unstopped, endingOf, runReason, runOf}
 use Rattle.runner.specs.RunLaws.{run-accepts, run-unrefused}
 use Rattle.playback.specs.declared.Verdict.the-variants as verdict
 use Rattle.playback.specs.declared.Played.{Played}
-use Rattle.playback.specs.Agreement.{Does, tasksOf, ledTo, tripleIn, AllDo, FirstAt, woven}
+use Rattle.playback.specs.Agreement.{Performs, tasksOf, ledTo, tripleIn, AllDo, FirstAt, woven}
 use Rattle.playback.specs.Playback.{Triple, triplesOf, equals, does, playFrom, traceReason, playReason, refusedPlay, playOf}
 
 -- ---- the reasons
@@ -73,30 +73,30 @@ at-65537 trace e = rw e
 
 -- ---- what agrees
 
-does-true : (s : State) (t : Triple) → does s t ≡ true → Does s t
+does-true : (s : State) (t : Triple) → does s t ≡ true → Performs s t
 does-true s t = go (turnOf s (t .task) .outcome) refl
   where
-    go : (o : Outcome) → turnOf s (t .task) .outcome ≡ o → equals s t o ≡ true → Does s t
+    go : (o : Outcome) → turnOf s (t .task) .outcome ≡ o → equals s t o ≡ true → Performs s t
     go (Made how) e b =
         let both = and-eq-true-iff (eqb (t .line) (taskAt s (t .task) .line)) (eqb (t .how) (moveNumber how)) .0 b in
         record { how = how; made = e; line = eqb-true (t .line) (taskAt s (t .task) .line) (both .0); told = eqb-true (t .how) (moveNumber how) (both .1) }
     go (Refused k) e b = absurd (true≢false (sym b))
 
-true-does : (s : State) (t : Triple) → Does s t → does s t ≡ true
+true-does : (s : State) (t : Triple) → Performs s t → does s t ≡ true
 true-does s t d = rw (d .made, eq-eqb (t .line) (taskAt s (t .task) .line) (d .line), eq-eqb (t .how) (moveNumber (d .how)) (d .told))
 
 -- "A triple with an unknown task, an outcome above 1 or a turn that would be refused differs"
-pub unknown-differs : (s : State) (t : Triple) → s .n ≤ t .task → Does s t → ⊥
+pub unknown-differs : (s : State) (t : Triple) → s .n ≤ t .task → Performs s t → ⊥
 unknown-differs s t h d = omega (arith, turn-makes s (t .task) (d .how) (d .made) .known)
 
-pub outcome-differs : (s : State) (t : Triple) → 1 < t .how → Does s t → ⊥
+pub outcome-differs : (s : State) (t : Triple) → 1 < t .how → Performs s t → ⊥
 outcome-differs s t h d = omega (arith, d .told, move-le (d .how))
 
-pub refused-differs : (s : State) (t : Triple) (k : ℕ) → turnOf s (t .task) .outcome ≡ Refused k → Does s t → ⊥
+pub refused-differs : (s : State) (t : Triple) (k : ℕ) → turnOf s (t .task) .outcome ≡ Refused k → Performs s t → ⊥
 refused-differs s t k e d = let made = d .made in let z : _≡_ {A = ℕ} 0 1 = cc in omega arith
 
 -- past a triple that does, the others lead on from the state after its turn
-led-on : (s : State) (t : Triple) (ts : List Triple) (i : ℕ) → Does s t → ledTo s (t ∷ ts) (suc i) ≡ ledTo (turnOf s (t .task) .state) ts i
+led-on : (s : State) (t : Triple) (ts : List Triple) (i : ℕ) → Performs s t → ledTo s (t ∷ ts) (suc i) ≡ ledTo (turnOf s (t .task) .state) ts i
 led-on s t ts i d =
     ap (λ (r : Trace). r .state)
     (trace-turn s (t .task) (tasksOf (take i ts)) ∙ ap (λ (o : Outcome). turned s (t .task) o (traceOf (turnOf s (t .task) .state) (tasksOf (take i ts)))) (d .made))
@@ -105,15 +105,15 @@ led-none : (s : State) (ts : List Triple) → ledTo s ts 0 ≡ s
 led-none s ts = ap (λ (r : Trace). r .state) (trace-none s)
 
 module _ (s : State) (t : Triple) (ts : List Triple) where
-  first-does : AllDo s (t ∷ ts) → Does s t
-  first-does all = subst (λ (x : State). Does x t) (led-none s (t ∷ ts)) (all 0 (omega arith))
+  first-does : AllDo s (t ∷ ts) → Performs s t
+  first-does all = subst (λ (x : State). Performs x t) (led-none s (t ∷ ts)) (all 0 (omega arith))
 
   rest-do : AllDo s (t ∷ ts) → AllDo (turnOf s (t .task) .state) ts
-  rest-do all i l = subst (λ (x : State). Does x (tripleIn ts i)) (led-on s t ts i (first-does all)) (all (suc i) (omega arith))
+  rest-do all i l = subst (λ (x : State). Performs x (tripleIn ts i)) (led-on s t ts i (first-does all)) (all (suc i) (omega arith))
 
-  all-do : Does s t → AllDo (turnOf s (t .task) .state) ts → AllDo s (t ∷ ts)
-  all-do d more zero l = subst (λ (x : State). Does x t) (sym (led-none s (t ∷ ts))) d
-  all-do d more (suc i) l = subst (λ (x : State). Does x (tripleIn ts i)) (sym (led-on s t ts i d)) (more i (omega arith))
+  all-do : Performs s t → AllDo (turnOf s (t .task) .state) ts → AllDo s (t ∷ ts)
+  all-do d more zero l = subst (λ (x : State). Performs x t) (sym (led-none s (t ∷ ts))) d
+  all-do d more (suc i) l = subst (λ (x : State). Performs x (tripleIn ts i)) (sym (led-on s t ts i d)) (more i (omega arith))
 
 -- to differ is not to agree
 differs-agrees : (i : ℕ) → verdict.Differs i ≡ verdict.Agrees → ⊥
@@ -148,12 +148,12 @@ agrees-trace s i (t ∷ ts) all =
 
 -- ---- the first that differs
 
-first-later : (s : State) (t : Triple) (ts : List Triple) (k : ℕ) (end : State) → Does s t → FirstAt (turnOf s (t .task) .state) ts k end → FirstAt s (t ∷ ts) (suc k) end
+first-later : (s : State) (t : Triple) (ts : List Triple) (k : ℕ) (end : State) → Performs s t → FirstAt (turnOf s (t .task) .state) ts k end → FirstAt s (t ∷ ts) (suc k) end
 first-later s t ts k end d f =
     record {
       within = omega (arith, f .within);
       before = all-do s t (take k ts) d (f .before);
-      other = λ x. f .other (subst (λ (y : State). Does y (tripleIn ts k)) (led-on s t ts k d) x);
+      other = λ x. f .other (subst (λ (y : State). Performs y (tripleIn ts k)) (led-on s t ts k d) x);
       state = f .state ∙ sym (led-on s t ts k d);
     }
 
@@ -176,7 +176,7 @@ differs-from s i (t ∷ ts) k e =
             record {
               within = omega arith;
               before = λ j l. absurd (omega arith);
-              other = λ x. true≢false (sym (true-does s t (subst (λ (y : State). Does y t) (led-none s (t ∷ ts)) x)) ∙ other);
+              other = λ x. true≢false (sym (true-does s t (subst (λ (y : State). Performs y t) (led-none s (t ∷ ts)) x)) ∙ other);
               state = sym (led-none s (t ∷ ts));
             },
           ),
@@ -233,7 +233,7 @@ cut-does s ts k all i l =
     let h : i < min k (length ts) = rw (length-take k ts) at l in
     let led : ledTo s (take k ts) i ≡ ledTo s ts i = ap (λ (us : List Triple). traceOf s (tasksOf us) .state) (take-take i k ts (omega arith)) in
     let here : tripleIn (take k ts) i ≡ tripleIn ts i = getD-take k ts i (record { task = 0; line = 0; how = 0 }) (omega arith) in
-    subst (Does (ledTo s (take k ts) i)) (sym here) (subst (λ (x : State). Does x (tripleIn ts i)) (sym led) (all i (omega arith)))
+    subst (Performs (ledTo s (take k ts) i)) (sym here) (subst (λ (x : State). Performs x (tripleIn ts i)) (sym led) (all i (omega arith)))
 
 -- the triples of a trace that is cut at a triple
 pub triples-take : (k : ℕ) (trace : List ℕ) → triplesOf (take (3 * k) trace) ≡ take k (triplesOf trace)

@@ -15,34 +15,34 @@ use Rattle.schedule.specs.Stretch.{namesAll, EachNamesAll}
 use Rattle.schedule.specs.StretchLaws.{empty-unnamed, unnamed-take}
 use Rattle.schedule.specs.Passes.{passesFrom, passesOf, allTasks}
 use Rattle.schedule.specs.PassesLaws.{next-turn, each-named, all-known}
-use Rattle.schedule.specs.FirstPass.{firstOf, firstPassOf, PassAt}
+use Rattle.schedule.specs.FirstPass.{headOf, firstPassOf, PassAt}
 
 -- ---- of the passes of any turns
 
 -- a pass is not empty
-first-some : (n : ℕ) (since ts : List ℕ) → 0 < length (passesFrom n since ts) → firstOf (passesFrom n since ts) ≢ []
+first-some : (n : ℕ) (since ts : List ℕ) → 0 < length (passesFrom n since ts) → headOf (passesFrom n since ts) ≢ []
 unfolding passesFrom
 first-some n since [] = λ h. absurd (omega arith)
 first-some n since (t ∷ ts) =
-    next-turn n since t ts (λ ps. 0 < length ps → firstOf ps ≢ []) (λ e h. concat-ne-nil t since) (λ e. first-some n (since ++ t ∷ []) ts)
+    next-turn n since t ts (λ ps. 0 < length ps → headOf ps ≢ []) (λ e h. concat-ne-nil t since) (λ e. first-some n (since ++ t ∷ []) ts)
 
 -- it is the beginning of the turns
-first-begins : (n : ℕ) (since ts : List ℕ) → take (length (firstOf (passesFrom n since ts))) (since ++ ts) ≡ firstOf (passesFrom n since ts)
+first-begins : (n : ℕ) (since ts : List ℕ) → take (length (headOf (passesFrom n since ts))) (since ++ ts) ≡ headOf (passesFrom n since ts)
 unfolding passesFrom
 first-begins n since [] = refl
 first-begins n since (t ∷ ts) =
     rw (← append-snoc since t ts)
-    (next-turn n since t ts (λ ps. take (length (firstOf ps)) (since ++ t ∷ [] ++ ts) ≡ firstOf ps)
+    (next-turn n since t ts (λ ps. take (length (headOf ps)) (since ++ t ∷ [] ++ ts) ≡ headOf ps)
     (λ e. take-append-seam (since ++ t ∷ []) ts)
     (λ e. first-begins n (since ++ t ∷ []) ts))
 
 -- and no shorter beginning names every task
-first-shorter : (n : ℕ) (since ts : List ℕ) (k : ℕ) → namesAll n since ≡ false → k < length (firstOf (passesFrom n since ts))
-    → namesAll n (take k (firstOf (passesFrom n since ts))) ≡ false
+first-shorter : (n : ℕ) (since ts : List ℕ) (k : ℕ) → namesAll n since ≡ false → k < length (headOf (passesFrom n since ts))
+    → namesAll n (take k (headOf (passesFrom n since ts))) ≡ false
 unfolding passesFrom
 first-shorter n since [] k o = λ l. absurd (omega arith)
 first-shorter n since (t ∷ ts) k o =
-    next-turn n since t ts (λ ps. k < length (firstOf ps) → namesAll n (take k (firstOf ps)) ≡ false)
+    next-turn n since t ts (λ ps. k < length (headOf ps) → namesAll n (take k (headOf ps)) ≡ false)
     (λ e l.
     let le : k ≤ length since = omega (arith, length-append since (t ∷ [])) in
     rw take-append-le (unnamed-take n k since o))
@@ -52,18 +52,18 @@ first-shorter n since (t ∷ ts) k o =
 
 -- the answer is the first pass, or it is empty
 answer-cases : (n place : ℕ) (ts : List ℕ) (P : List ℕ → Type 0)
-    → (1 ≤ n → n ≤ 64 → allTasks n (drop place ts) ≡ true → P (firstOf (passesOf n (drop place ts)))) → P [] → P (firstPassOf n place ts)
+    → (1 ≤ n → n ≤ 64 → allTasks n (drop place ts) ≡ true → P (headOf (passesOf n (drop place ts)))) → P [] → P (firstPassOf n place ts)
 unfolding firstPassOf
 answer-cases n place ts P pass none = go (leb 1 n) (leb n 64) (allTasks n (drop place ts)) refl refl refl
   where
-    go : (a b c : Bool) → leb 1 n ≡ a → leb n 64 ≡ b → allTasks n (drop place ts) ≡ c → P (pick (a && b && c) (firstOf (passesOf n (drop place ts))) [])
+    go : (a b c : Bool) → leb 1 n ≡ a → leb n 64 ≡ b → allTasks n (drop place ts) ≡ c → P (pick (a && b && c) (headOf (passesOf n (drop place ts))) [])
     go true true true x y z = pass (leb-true 1 n x) (leb-true n 64 y) z
     go true true false x y z = none
     go true false c x y z = none
     go false b c x y z = none
 
 -- a pass that is not empty stands where one can
-pass-at : (n place : ℕ) (ts : List ℕ) → 1 ≤ n → n ≤ 64 → allTasks n (drop place ts) ≡ true → firstOf (passesOf n (drop place ts)) ≢ [] → PassAt n place ts
+pass-at : (n place : ℕ) (ts : List ℕ) → 1 ≤ n → n ≤ 64 → allTasks n (drop place ts) ≡ true → headOf (passesOf n (drop place ts)) ≢ [] → PassAt n place ts
 unfolding passesFrom
 pass-at n place ts l h u ne =
     record {
@@ -78,9 +78,9 @@ pass-at n place ts l h u ne =
   where
     within : Dec (place < length ts) → place < length ts
     within (yes q) = q
-    within (no q) = absurd (ne (ap (λ (us : List ℕ). firstOf (passesOf n us)) (drop-of-length-le ts {i = place} (omega arith))))
+    within (no q) = absurd (ne (ap (λ (us : List ℕ). headOf (passesOf n us)) (drop-of-length-le ts {i = place} (omega arith))))
 
-    pass : (ps : List (List ℕ)) → firstOf ps ≢ [] → 0 < length ps
+    pass : (ps : List (List ℕ)) → headOf ps ≢ [] → 0 < length ps
     pass [] o = absurd (o refl)
     pass (p ∷ ps) o = omega arith
 
@@ -108,7 +108,7 @@ first-named n place ts =
     (λ l h u. go (passesOf n (drop place ts)) (each-named n [] (drop place ts)))
     (λ ne. absurd (ne refl))
   where
-    go : (ps : List (List ℕ)) → EachNamesAll n ps → firstOf ps ≢ [] → namesAll n (firstOf ps) ≡ true
+    go : (ps : List (List ℕ)) → EachNamesAll n ps → headOf ps ≢ [] → namesAll n (headOf ps) ≡ true
     go [] e ne = absurd (ne refl)
     go (p ∷ ps) e ne = e .0
 

@@ -49,8 +49,8 @@ traceIn f = traceOf (freshOf (f .inputs) .state) (f .schedule)
 unfoldable pub tableWith : List ℕ → ℕ → ℕ → List ℕ
 tableWith rows passes least = header ++ rows ++ passesWord ++ spaced passes ++ leastWord ++ spaced least ++ 10 ∷ []
 
-unfoldable pub tableOf : Five → List ℕ
-tableOf f =
+unfoldable pub sheetTable : Five → List ℕ
+sheetTable f =
     tableWith (rowsBy (rowOf (traceIn f)) (f .inputs .n)) (length (passesOf (f .inputs .n) (f .schedule))) (least (traceIn f .state))
 
 -- "A refusal prints one line, `refused 3`; for 9 it is `refused 9 place 4`"
@@ -58,7 +58,7 @@ unfoldable pub refusalOf : ℕ → ℕ → List ℕ
 refusalOf reason place = refusedWord ++ spaced reason ++ pick (eqb reason 9) (placeWord ++ spaced place) [] ++ 10 ∷ []
 
 abbrev pub printed : Reading → List ℕ
-printed (five f) = tableOf f
+printed (five f) = sheetTable f
 printed (refused reason place) = refusalOf reason place
 
 unfoldable pub sheetOf : List ℕ → List ℕ

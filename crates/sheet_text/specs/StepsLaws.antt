@@ -22,7 +22,7 @@ use Rattle.runner.specs.TraceLaws.{trace-n}
 use Rattle.runner.specs.Run.{movesIn, waitsIn, unstopped, ranOf, runOf}
 use Rattle.runner.specs.RunLaws.{run-accepts, run-unrefused}
 use Rattle.reader.specs.Read.{Five}
-use Rattle.sheet_text.specs.Print.{rowOf, rowsBy, tableWith, tableOf}
+use Rattle.sheet_text.specs.Print.{rowOf, rowsBy, tableWith, sheetTable}
 use Rattle.sheet_text.specs.Steps.{ranRow, tableFrom}
 use Rattle.sheet_text.specs.PrintLaws.{rows-same}
 
@@ -52,6 +52,6 @@ module _ (s : State) (ts : List ℕ) (ok : Valid s) (few : length ts ≤ 32768) 
           rw (table-at 64 (movesIn (t .made)) q 0 h, table-at 64 (waitsIn (t .made)) q 0 h)
 
 -- the table of five things is that of their fresh state and their turns
-pub table-of : (f : Five) → freshReason (f .inputs) ≡ 0 → tableOf f ≡ tableFrom (freshState (f .inputs)) (f .schedule)
-unfolding tableOf tableFrom
+pub table-of : (f : Five) → freshReason (f .inputs) ≡ 0 → sheetTable f ≡ tableFrom (freshState (f .inputs)) (f .schedule)
+unfolding sheetTable tableFrom
 table-of f z = rw (fresh-accepted (f .inputs) z)

@@ -34,6 +34,6 @@ pub record LoopMoves (k : ℕ) (times : ℕ → ℕ) : Type 0 where
   pub at-18 : times 18 ≡ k + 1
 
 -- the claim, for every tree state in range; k is the size of the set of p's children
-abbrev pub Claim : Type 0
-Claim = (s : State) → Valid s → s .kind ≡ 3 → (p : ℕ) → JustLeft p s → (ts : List ℕ) → FirstBack p s ts
+abbrev pub LoopClaim : Type 0
+LoopClaim = (s : State) → Valid s → s .kind ≡ 3 → (p : ℕ) → JustLeft p s → (ts : List ℕ) → FirstBack p s ts
     → LoopMoves (sizeOf (childrenOf (tableOf s) p)) (λ line. timesAt p line s ts)

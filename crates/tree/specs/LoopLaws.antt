@@ -23,7 +23,7 @@ use Rattle.barrier.specs.TimesLaws.{core, Turns, moves, stays, turns}
 use Rattle.tree.specs.Lines.{by-line}
 use Rattle.tree.specs.Steps.{Looks}
 use Rattle.tree.specs.Round.{children}
-use Rattle.tree.specs.Loop.{JustLeft, FirstBack, Claim}
+use Rattle.tree.specs.Loop.{JustLeft, FirstBack, LoopClaim}
 
 -- ---- the moves yet to make
 
@@ -150,7 +150,7 @@ all-turns p (q ∷ ts) s on back = let first = one-turn s p q on (back .0) in bo
 
 -- ---- the claim
 
-pub loop : Claim
+pub loop : LoopClaim
 loop s ok kind p left ts back =
     let all = all-turns p ts s (record { valid = ok; kind = kind; looks = omega arith }) back in
     omega (arith, rw left at all)
