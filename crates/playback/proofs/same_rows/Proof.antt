@@ -92,10 +92,14 @@ shared-slice-read-if2-2 : tie.Need-shared-slice-read-if2-2 Inv-loop μ-loop
 shared-slice-read-if2-2 c = let l = c .before .before .before .before .before .before in omega (arith, l .before .pre, c .before .before .before .before .before .loop-test .taken)
 
 returns-2 : tie.Need-returns-2 Inv-loop μ-loop
-returns-2 c = let l = c .before .before .before .before .before .before .before in outcome-differs (l .loop .inv) (l .before .pre) (c .before .before .before .before .before .before .loop-test .taken) (c .if2 .taken)
+returns-2 c =
+    let t = c .before .before .before .before .before .before in
+    outcome-differs (t .before .loop .inv) (t .before .before .pre) (t .loop-test .taken) (c .if2 .taken)
 
 loop-again : tie.Need-loop-again Inv-loop μ-loop
-loop-again c = let l = c .before .before .before .before .before .before .before in more (l .loop .inv) (l .before .pre) (c .before .before .before .before .before .before .loop-test .taken) (c .before .before .before .if1 .left) (c .if2 .left)
+loop-again c =
+    let t = c .before .before .before .before .before .before in
+    more (t .before .loop .inv) (t .before .before .pre) (t .loop-test .taken) (c .before .before .before .if1 .left) (c .if2 .left)
 
 returns-3 : tie.Need-returns-3 Inv-loop μ-loop
 returns-3 c = over (c .before .loop .inv) (c .loop-test .left)

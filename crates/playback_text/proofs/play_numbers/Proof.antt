@@ -78,7 +78,7 @@ module _ (ns : List ℕ) where
 -- ---- the numbers, and the bytes of those after the sixth
 
 abbrev asked : tie.After-shared-slice-known8 → tie.Start
-asked c = c .before .before .before .before .before .before .before .before
+asked c = let k = c .before .before .before .before in k .before .before .before .before
 
 abbrev whole : tie.After-bytes2 → tie.Else1
 whole c = c .before .before .before

@@ -45,7 +45,7 @@ cast-modulus c = omega (arith, c .shared-slice-known4 .given 2)
 -- ---- the numbers, and their bytes in the buffer
 
 abbrev start : tie.After-bytes2 → tie.Start
-start c = c .before .before .before .before .before .before .before
+start c = let n = c .before .before .before .before in n .before .before .before
 
 abbrev ns : tie.After-bytes2 → List ℕ
 ns c = start c .args .numbers .now

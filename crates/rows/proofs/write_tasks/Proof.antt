@@ -59,13 +59,14 @@ loop-less c = omega arith
 
 loop-again : tie.Need-loop-again Inv-loop μ-loop
 loop-again c =
-    let t = c .before .before .before .before .before .before .before .before in
+    let w = c .before .before in
+    let t = w .before .before .before .before .before .before in
     let l = t .before in
     let q = l .loop .q in
     let rows = l .loop .rows in
     let next : 4 * (q + 1) ≡ 4 * q + 4 = omega arith in
-    let wrote : c .before .before .write-task .last .0 ≡ taskRow (ran l) q ++ drop 4 (take (length rows - 4 * q) (drop (4 * q) rows))
-    = c .before .before .write-task .ensures in (
+    let wrote : w .write-task .last .0 ≡ taskRow (ran l) q ++ drop 4 (take (length rows - 4 * q) (drop (4 * q) rows))
+    = w .write-task .ensures in (
       omega (arith, t .loop-test .taken),
       ap (putMid (4 * q) (length rows - 4 * q) rows) wrote
           ∙ tail-more (done l) (start l .args .rows .now) rows (4 * q) (l .loop .inv .1) (length-tasks (ran l) q) (taskRow (ran l) q) 4

@@ -14,7 +14,7 @@ module _ (c : tie.After-run-tasks) where
   beginning = c .before .before .before
 
   abbrev start : tie.Start
-  start = beginning .before .before .before .before .before .before .before
+  start = let lent = beginning .before .before .before .before in lent .before .before .before
 
   abbrev begun : Begun
   begun = let a = start .args in freshly (inputsFrom (a .kind) (a .n) (a .modulus) (a .parents .now) (a .starts .now) (a .works .now))
@@ -40,7 +40,8 @@ module _ (c : tie.After-run-tasks) where
 
 returns : tie.Need-returns
 returns c =
-    let r = c .before .before .before .before .before .before .before .before in
+    let lent = c .before .before .before .before in
+    let r = lent .before .before .before .before in
     let numbers = ap numbersOf (sym (ran r)) ∙ c .tell .ensures in
     λ i. record { numbers = numbers i; log = sym (logged r) i; tasks = sym (listed r) i }
 

@@ -35,7 +35,14 @@ at s k h = (omega (arith, s .pre .0), fits s k h)
 here : (s : tie.Start) → (s .args .at < length (s .args .list .now)) × (getD (s .args .list .now) (s .args .at) 0 ≤ 255)
 here s = let z : s .args .at + 0 ≡ s .args .at = omega arith in rw z at (at s 0 (omega arith))
 
+-- where the function begins, seen from its fourth byte and from its eighth
+abbrev from-4 : tie.After-byte4 → tie.Start
+from-4 c = c .before .before .before .before .before
+
+abbrev from-8 : tie.After-byte8 → tie.Start
+from-8 c = from-4 (c .before .before .before .before .before .before)
+
 pub task-from-spec : {M : Type 1} → statement M
 task-from-spec =
     tie.close
-    (tie.spec (λ c. search needs) (λ c κs. at (c .before) 6 (omega arith)) (λ c. search needs) (λ c κs. at (c .before .before) 7 (omega arith)) (λ c. search needs) (λ c κs. at (c .before .before .before) 8 (omega arith)) (λ c. search needs) (λ c κs. at (c .before .before .before .before) 9 (omega arith)) (λ c. search needs) (λ c κs. at (c .before .before .before .before .before) 1 (omega arith)) (λ c. search needs) (λ c. search needs) (λ c. search needs) (λ c. search needs) (λ c κs. at (c .before .before .before .before .before .before .before) 13 (omega arith)) (λ c. search needs) (λ c κs. at (c .before .before .before .before .before .before .before .before) 12 (omega arith)) (λ c. search needs) (λ c κs. at (c .before .before .before .before .before .before .before .before .before) 5 (omega arith)) (λ c. search needs) (λ c κs. at (c .before .before .before .before .before .before .before .before .before .before) 3 (omega arith)) (λ c. search needs) (λ c κs. at (c .before .before .before .before .before .before .before .before .before .before .before) 2 (omega arith)) (λ c κs. here (c .before .before .before .before .before .before .before .before .before .before .before .before)) (λ c. search needs) (λ c κs. at (c .before .before .before .before .before .before .before .before .before .before .before .before .before) 14 (omega arith)) returns)
+    (tie.spec (λ c. search needs) (λ c κs. at (c .before) 6 (omega arith)) (λ c. search needs) (λ c κs. at (c .before .before) 7 (omega arith)) (λ c. search needs) (λ c κs. at (c .before .before .before) 8 (omega arith)) (λ c. search needs) (λ c κs. at (c .before .before .before .before) 9 (omega arith)) (λ c. search needs) (λ c κs. at (from-4 c) 1 (omega arith)) (λ c. search needs) (λ c. search needs) (λ c. search needs) (λ c. search needs) (λ c κs. at (from-4 (c .before .before)) 13 (omega arith)) (λ c. search needs) (λ c κs. at (from-4 (c .before .before .before)) 12 (omega arith)) (λ c. search needs) (λ c κs. at (from-4 (c .before .before .before .before)) 5 (omega arith)) (λ c. search needs) (λ c κs. at (from-4 (c .before .before .before .before .before)) 3 (omega arith)) (λ c. search needs) (λ c κs. at (from-8 c) 2 (omega arith)) (λ c κs. here (from-8 (c .before))) (λ c. search needs) (λ c κs. at (from-8 (c .before .before)) 14 (omega arith)) returns)
