@@ -6,7 +6,7 @@ use Prim.Native.Nat.{ℕ, zero, suc, _+_, _<_}
 use native.Mathlib.Numerals.{add-one}
 use native.Mathlib.Nat.{eq-or-lt-of-le, le-of-suc-le-suc}
 use native.Mathlib.Omega.{arith}
-use lib.ListN.{length, getD, set, replicate, length-append, replicate-append-replicate, List·getD-append}
+use lib.ListN.{length, getD, set, length-append, List·getD-append}
 use lib.Seq.{set-append-left, set-at, getD-at}
 use Rattle.bitset.specs.Table.{table}
 
@@ -50,12 +50,6 @@ module _ {ℓ} {A : Type ℓ} where
   pub table-none : (f : ℕ → A) → table 0 f ≡ []
   unfolding table
   table-none f = refl
-
-  -- one value at every place
-  pub table-same-value : (n : ℕ) (x : A) → table n (λ _. x) ≡ replicate n x
-  unfolding table
-  table-same-value zero x = refl
-  table-same-value (suc n) x = rw (table-same-value n x) (replicate-append-replicate n 1 x ∙ ap (λ (k : ℕ). replicate k x) (add-one n))
 
   -- one value more
   pub table-more : (n : ℕ) (f : ℕ → A) → table (n + 1) f ≡ table n f ++ f n ∷ []

@@ -16,8 +16,8 @@ standing f zero c = 0
 standing f (suc n) c = standing f n c + pick (eqb (f n) c) 1 0
 
 -- 01: "the least count is the lowest of them", of the tasks 0 to n − 1, and how many of these stand at it
-abbrev pub leastOf : (ℕ → ℕ) → ℕ → Least
-leastOf f n = record { count = lowest f (n - 1); tasks = standing f n (lowest f (n - 1)) }
+abbrev pub leastAmong : (ℕ → ℕ) → ℕ → Least
+leastAmong f n = record { count = lowest f (n - 1); tasks = standing f n (lowest f (n - 1)) }
 
 -- the same with one task more, which has this count
 abbrev pub joinedOf : Least → ℕ → Least
@@ -32,4 +32,4 @@ closesOf l count next = pick (not (eqb next count) && eqb count (l .count) && eq
 -- the least count once a task that stood at it has risen, and the counts of n tasks are f then: one task fewer stands at it, and where that
 -- was the last, it is found anew
 abbrev pub risenOf : Least → (ℕ → ℕ) → ℕ → Least
-risenOf l f n = pick (ltb 1 (l .tasks)) (record { count = l .count; tasks = l .tasks - 1 }) (leastOf f n)
+risenOf l f n = pick (ltb 1 (l .tasks)) (record { count = l .count; tasks = l .tasks - 1 }) (leastAmong f n)

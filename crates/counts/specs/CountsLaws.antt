@@ -17,7 +17,7 @@ use Rattle.bitset.specs.ChoiceLaws.{by-test}
 use Rattle.bitset.specs.Table.{table}
 use Rattle.bitset.specs.TableLaws.{table-at}
 use Rattle.counts.specs.declared.Least.{Least}
-use Rattle.counts.specs.Counts.{lowest, standing, leastOf, joinedOf, closesOf, risenOf}
+use Rattle.counts.specs.Counts.{lowest, standing, leastAmong, joinedOf, closesOf, risenOf}
 
 -- ---- the lowest count
 
@@ -119,7 +119,7 @@ standing-put f g (suc n) p c h o = go (ℕ-discrete p n) (λ l. standing-put f g
     go (no ne) ih = rw (o n (λ e. ne (sym e))) (omega (arith, ih (omega arith)))
 
 -- two that agree below n have the same least count
-pub least-same : (f g : ℕ → ℕ) (n : ℕ) → 0 < n → ((q : ℕ) → q < n → g q ≡ f q) → leastOf g n ≡ leastOf f n
+pub least-same : (f g : ℕ → ℕ) (n : ℕ) → 0 < n → ((q : ℕ) → q < n → g q ≡ f q) → leastAmong g n ≡ leastAmong f n
 least-same f g n some h =
     let a = lowest-attained f (n - 1) in
     let e : lowest g (n - 1) ≡ lowest f (n - 1)
@@ -127,16 +127,16 @@ least-same f g n some h =
     rw (e, standing-same f g n (lowest f (n - 1)) h)
 
 -- the least of the first n of some counts, as they are lent
-pub least-lent : (l : List ℕ) (n : ℕ) → 0 < n → n ≤ length l → leastOf (λ q. getD (take n l) q 0) (length (take n l)) ≡ leastOf (λ q. getD l q 0) n
+pub least-lent : (l : List ℕ) (n : ℕ) → 0 < n → n ≤ length l → leastAmong (λ q. getD (take n l) q 0) (length (take n l)) ≡ leastAmong (λ q. getD l q 0) n
 least-lent l n some room =
     rw (length-take-le n l room) (least-same (λ q. getD l q 0) (λ q. getD (take n l) q 0) n some (λ q h. getD-take n l q 0 h))
 
 -- of the counts in a table
-pub least-table : (f : ℕ → ℕ) (n m : ℕ) → 0 < n → n ≤ m → leastOf (λ q. getD (table m f) q 0) n ≡ leastOf f n
+pub least-table : (f : ℕ → ℕ) (n m : ℕ) → 0 < n → n ≤ m → leastAmong (λ q. getD (table m f) q 0) n ≡ leastAmong f n
 least-table f n m some room = least-same f (λ q. getD (table m f) q 0) n some (λ q h. table-at m f q 0 (omega arith))
 
 -- it is found task by task
-pub least-more : (f : ℕ → ℕ) (q : ℕ) → leastOf f (q + 1) ≡ joinedOf (leastOf f q) (f q)
+pub least-more : (f : ℕ → ℕ) (q : ℕ) → leastAmong f (q + 1) ≡ joinedOf (leastAmong f q) (f q)
 least-more f zero =
     rw (standing-more f 0 (lowest f 0), standing-none f (lowest f 0), lowest-first f, le-ltb (f 0) (f 0) (omega arith), eq-eqb (f 0) (f 0) refl)
 least-more f (suc m) =
@@ -188,7 +188,7 @@ module _ (f g : ℕ → ℕ) (n p : ℕ) (here : p < n) (other : (q : ℕ) → q
       go (no ne) = other q ne
 
   -- where the count stays, so does the least count
-  rise-none : g p ≡ f p → leastOf g n ≡ leastOf f n
+  rise-none : g p ≡ f p → leastAmong g n ≡ leastAmong f n
   rise-none e = least-same f g n (omega arith) (λ q l. kept (sym e) q)
 
   module _ (up : g p ≡ f p + 1) where
@@ -204,7 +204,7 @@ module _ (f g : ℕ → ℕ) (n p : ℕ) (here : p < n) (other : (q : ℕ) → q
     stays some = let a = standing-some g n low some in lowest-is g (n - 1) low (a .0) (λ r l. above r (omega arith)) (omega (arith, a .1)) (a .2)
 
     -- a count above the least
-    rise-other : f p ≢ low → leastOf g n ≡ leastOf f n
+    rise-other : f p ≢ low → leastAmong g n ≡ leastAmong f n
     rise-other ne = rw (stays (rw same (standing-at f n low (a .0) (omega (arith, a .1)) (sym (a .2)))), same)
       where
         a : (q : ℕ) × (q ≤ n - 1) × (lowest f (n - 1) ≡ f q)
@@ -223,7 +223,7 @@ module _ (f g : ℕ → ℕ) (n p : ℕ) (here : p < n) (other : (q : ℕ) → q
         omega (arith, rw (eq-eqb (f p) low e, ne-eqb (g p) low (omega (arith, up))) at put)
 
     -- where others stand there too it is the same, with one task fewer
-    rise-fewer : f p ≡ low → 1 < standing f n low → leastOf g n ≡ record { count = low; tasks = standing f n low - 1 }
+    rise-fewer : f p ≡ low → 1 < standing f n low → leastAmong g n ≡ record { count = low; tasks = standing f n low - 1 }
     rise-fewer e many =
         let some : standing g n low ≡ standing f n low - 1 = omega (arith, fewer e) in
         rw (stays (rw some (omega arith)), some)
@@ -237,13 +237,13 @@ module _ (f g : ℕ → ℕ) (n p : ℕ) (here : p < n) (other : (q : ℕ) → q
 
   -- the three together: what a count that is kept or raised makes of the least count
   module _ (c : KeptOrRaised (f p) (g p)) where
-    pub rise-closes : pick (ltb low (lowest g (n - 1))) 1 0 ≡ closesOf (leastOf f n) (f p) (g p)
+    pub rise-closes : pick (ltb low (lowest g (n - 1))) 1 0 ≡ closesOf (leastAmong f n) (f p) (g p)
     rise-closes = go c (ℕ-discrete (f p) low) (ℕ-discrete (standing f n low) 1)
       where
-        same : {x : Least} → leastOf g n ≡ x → x .count ≡ low → _≡_ {A = ℕ} (pick (ltb low (lowest g (n - 1))) 1 0) 0
+        same : {x : Least} → leastAmong g n ≡ x → x .count ≡ low → _≡_ {A = ℕ} (pick (ltb low (lowest g (n - 1))) 1 0) 0
         same e k = rw (ap (λ (l : Least). l .count) e ∙ k, le-ltb low low (omega arith))
 
-        go : KeptOrRaised (f p) (g p) → Dec (f p ≡ low) → Dec (standing f n low ≡ 1) → pick (ltb low (lowest g (n - 1))) 1 0 ≡ closesOf (leastOf f n) (f p) (g p)
+        go : KeptOrRaised (f p) (g p) → Dec (f p ≡ low) → Dec (standing f n low ≡ 1) → pick (ltb low (lowest g (n - 1))) 1 0 ≡ closesOf (leastAmong f n) (f p) (g p)
         go (inl e) at one = same (rise-none e) refl ∙ rw (eq-eqb (g p) (f p) e)
         go (inr up) (no ne) one = same (rise-other up ne) refl ∙ rw (ne-eqb (g p) (f p) (omega arith), ne-eqb (f p) low ne)
         go (inr up) (yes e) (yes one) =
@@ -252,11 +252,11 @@ module _ (f g : ℕ → ℕ) (n p : ℕ) (here : p < n) (other : (q : ℕ) → q
             same (rise-fewer up e (omega (arith, standing-at f n low p here e))) refl
             ∙ rw (ne-eqb (g p) (f p) (omega arith), eq-eqb (f p) low e, ne-eqb (standing f n low) 1 many)
 
-    pub rise-least : leastOf g n ≡ pick (not (eqb (g p) (f p)) && eqb (f p) low) (risenOf (leastOf f n) g n) (leastOf f n)
+    pub rise-least : leastAmong g n ≡ pick (not (eqb (g p) (f p)) && eqb (f p) low) (risenOf (leastAmong f n) g n) (leastAmong f n)
     rise-least = go c (ℕ-discrete (f p) low) (decLt 1 (standing f n low))
       where
         go : KeptOrRaised (f p) (g p) → Dec (f p ≡ low) → Dec (1 < standing f n low)
-            → leastOf g n ≡ pick (not (eqb (g p) (f p)) && eqb (f p) low) (risenOf (leastOf f n) g n) (leastOf f n)
+            → leastAmong g n ≡ pick (not (eqb (g p) (f p)) && eqb (f p) low) (risenOf (leastAmong f n) g n) (leastAmong f n)
         go (inl e) at many = rise-none e ∙ rw (eq-eqb (g p) (f p) e)
         go (inr up) (no ne) many = rise-other up ne ∙ rw (ne-eqb (g p) (f p) (omega arith), ne-eqb (f p) low ne)
         go (inr up) (yes e) (yes many) =

@@ -50,7 +50,7 @@ fn joined(least: Least, count: u32) -> Least
 
 // The least of the counts, one a task. Of none it is 0, and nobody stands there.
 pub fn least_of(counts: &[u32]) -> Least
-    ensures { λ r. ⌜ r ≡ defs.leastOf (λ q. getD (now (counts .entry)) q 0) (length (now (counts .entry))) ⌝ }
+    ensures { λ r. ⌜ r ≡ defs.leastAmong (λ q. getD (now (counts .entry)) q 0) (length (now (counts .entry))) ⌝ }
 {
     let mut least = Least {
         count: first(counts),

@@ -13,7 +13,7 @@ use Rattle.bitset.specs.Choice.{pick}
 use Rattle.bitset.specs.Table.{table}
 use Rattle.bitset.specs.TableLaws.{length-table, table-at, table-same}
 use Rattle.bitset.specs.Tasks.{isCount}
-use Rattle.bitset.specs.TasksLaws.{Alike}
+use Rattle.bitset.specs.TasksLaws.{StandIn}
 use Rattle.bitset.specs.SetLaws.{is-count, within-bits, bit-zero}
 use Rattle.parents.specs.Parents.{checkOf}
 use Rattle.parents.specs.ParentsLaws.{accepted, entries-below, check-alike}
@@ -260,7 +260,7 @@ parents-below kind n parents q some e l =
     (λ _ t. absurd (omega (arith, rw (ne-eqb (length parents) 0 (λ z. omega arith)) at t))) e
 
 -- numbers in place of the entries
-module _ (f : ℕ → ℕ) (alike : Alike f) where
+module _ (f : ℕ → ℕ) (alike : StandIn f) where
   below-alike : (n : ℕ) (xs : List ℕ) → n ≤ 64 → allBelow n (map f xs) ≡ allBelow n xs
   unfolding allBelow
   below-alike n [] h = refl

@@ -9,7 +9,7 @@ use lib.ListN.{length, getD, take}
 use borrow.Author.Tests.{ltb-true, ltb-false}
 use Rattle.bitset.specs.ChoiceLaws.{by-test}
 use Rattle.bitset.specs.TableLaws.{length-table}
-use Rattle.counts.specs.Counts.{leastOf, closesOf}
+use Rattle.counts.specs.Counts.{leastAmong, closesOf}
 use Rattle.counts.specs.CountsLaws.{KeptOrRaised, least-lent, least-table, rise-closes}
 use Rattle.lines.specs.declared.Task.{Task}
 use Rattle.machine.specs.declared.State.{State}
@@ -34,9 +34,9 @@ module _ (s : State) (n : ℕ) (few : n ≤ 64) (all : List ℕ) (is : all ≡ c
   lent-there = omega (arith, ap length is, length-table 64 (countOf s))
 
   -- and their least is that of the n tasks
-  pub lent-least : 0 < n → leastOf (λ q. getD (take n all) q 0) (length (take n all)) ≡ leastOf (countOf s) n
+  pub lent-least : 0 < n → leastAmong (λ q. getD (take n all) q 0) (length (take n all)) ≡ leastAmong (countOf s) n
   lent-least some =
-      least-lent all n some lent-there ∙ ap (λ (l : List ℕ). leastOf (λ q. getD l q 0) n) is ∙ least-table (countOf s) n 64 some few
+      least-lent all n some lent-there ∙ ap (λ (l : List ℕ). leastAmong (λ q. getD l q 0) n) is ∙ least-table (countOf s) n 64 some few
 
 -- ---- the counts after a move
 
@@ -58,7 +58,7 @@ module _ (s : State) (p : ℕ) (ok : Valid s) (h : p < s .n) where
   rises-count = rw own-count (kept-or-raised s p)
 
   -- whether it closes a round is told by the least count, how many stand at it, and the own count
-  pub closed-is : closesOf (leastOf (countOf s) (s .n)) (countOf s p) (effectOf s p .task .count) ≡ closedBy s after
+  pub closed-is : closesOf (leastAmong (countOf s) (s .n)) (countOf s p) (effectOf s p .task .count) ≡ closedBy s after
   unfolding least
   closed-is =
       rw (moved-n s p (effectOf s p .task) (effectOf s p .write), ← own-count)

@@ -2,7 +2,7 @@
 use crate::State;
 ghost use mathlib.Core.Path.{_≡_};
 ghost use Prim.Native.Nat.{_<_};
-ghost use Rattle.counts.specs.Counts.{leastOf, closesOf};
+ghost use Rattle.counts.specs.Counts.{leastAmong, closesOf};
 ghost use Rattle.machine.specs.Range.{Valid};
 ghost use Rattle.machine.specs.Least as defs;
 
@@ -24,7 +24,7 @@ impl State {
     pub(crate) fn closes(self, task: usize, next: u32) -> u8
         requires { ⌜ Valid self ⌝ }
         requires { ⌜ task < self .n ⌝ }
-        ensures { λ r. ⌜ r ≡ closesOf (leastOf (defs.countOf self) (self .n)) (defs.countOf self task) next ⌝ }
+        ensures { λ r. ⌜ r ≡ closesOf (leastAmong (defs.countOf self) (self .n)) (defs.countOf self task) next ⌝ }
     {
         let count = self.tasks[task].count;
         if next == count {

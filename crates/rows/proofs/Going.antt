@@ -13,7 +13,7 @@ use borrow.Rule.Slice.PartMut.{putMid}
 use Rattle.bitset.specs.Choice.{pick}
 use Rattle.bitset.specs.TableLaws.{table-at, table-set}
 use Rattle.counts.specs.declared.Least.{Least}
-use Rattle.counts.specs.Counts.{lowest, leastOf}
+use Rattle.counts.specs.Counts.{lowest, leastAmong}
 use Rattle.counts.specs.CountsLaws.{rise-least}
 use Rattle.lines.specs.Common.{maxCount}
 use Rattle.machine.specs.declared.State.{State}
@@ -51,22 +51,22 @@ pub record Going (s : State) (ts log rows₀ : List ℕ) (i : ℕ) (counts : Lis
   pub long : length done ≡ 6 * i
   pub written : rows ≡ done ++ drop (6 * i) rows₀
   pub counted : counts ≡ countsOf state
-  pub lowest : low ≡ leastOf (countOf state) (s .n)
+  pub lowest : low ≡ leastAmong (countOf state) (s .n)
 
 -- the least of the counts of a state, as they are lent
 least-lent : (s : State) (counts : List ℕ) (n : ℕ) → Valid s → counts ≡ countsOf s → s .n ≡ n
-    → leastOf (λ q. getD (take n counts) q 0) (length (take n counts)) ≡ leastOf (countOf s) n
+    → leastAmong (λ q. getD (take n counts) q 0) (length (take n counts)) ≡ leastAmong (countOf s) n
 least-lent s counts n ok e same =
     let r = range s ok in
     lent-least s n (omega (arith, r .few)) counts e (omega (arith, r .some))
 
 -- and so the least count
-least-told : (s : State) (n : ℕ) (low : Least) → s .n ≡ n → low ≡ leastOf (countOf s) n → low .count ≡ least s
+least-told : (s : State) (n : ℕ) (low : Least) → s .n ≡ n → low ≡ leastAmong (countOf s) n → low .count ≡ least s
 least-told s n low same e = ap (λ (l : Least). l .count) e ∙ ap (λ (k : ℕ). lowest (countOf s) (k - 1)) (sym same) ∙ sym (least-is s)
 
 -- before the first turn
 pub going-none : (s : State) (ts log rows counts : List ℕ) (low : Least) → Valid s → traceOf s ts .stop ≡ nothing → log ≡ logOf (traceOf s ts .made)
-    → counts ≡ countsOf s → low ≡ leastOf (λ q. getD (take (s .n) counts) q 0) (length (take (s .n) counts))
+    → counts ≡ countsOf s → low ≡ leastAmong (λ q. getD (take (s .n) counts) q 0) (length (take (s .n) counts))
     → Going s ts log rows 0 counts low rows
 going-none s ts log rows counts low ok on logged counted e =
     record {
@@ -193,15 +193,15 @@ module _ {s : State} {ts log rows₀ : List ℕ} {i : ℕ} {counts : List ℕ} {
 
       -- and the least count after it
       module _ (low′ : Least) (e : low′ ≡ leastAfter low (getD counts p 0) (getD counts p 0 + up) (λ q. getD (take (s .n) counts′) q 0) (length (take (s .n) counts′))) where
-        lowest-more : low′ ≡ leastOf (countOf after) (s .n)
+        lowest-more : low′ ≡ leastAmong (countOf after) (s .n)
         lowest-more =
             e
             ∙ ap (λ (m : Least). pick (not (eqb (getD counts p 0 + up) (getD counts p 0)) && eqb (getD counts p 0) (low .count))
             (pick (ltb 1 (low .tasks)) (record { count = low .count; tasks = low .tasks - 1 }) m) low)
             (least-lent after counts′ (s .n) (turn-valid (g .state) p (g .valid)) counted-more same-tasks)
             ∙ ap (λ (l : Least). leastAfter l (getD counts p 0) (getD counts p 0 + up) (countOf after) (s .n)) (g .lowest)
-            ∙ ap (λ (x : ℕ). leastAfter (leastOf (countOf (g .state)) (s .n)) (getD counts p 0) x (countOf after) (s .n)) next-is
-            ∙ ap (λ (x : ℕ). leastAfter (leastOf (countOf (g .state)) (s .n)) x (countOf after p) (countOf after) (s .n)) count-is
+            ∙ ap (λ (x : ℕ). leastAfter (leastAmong (countOf (g .state)) (s .n)) (getD counts p 0) x (countOf after) (s .n)) next-is
+            ∙ ap (λ (x : ℕ). leastAfter (leastAmong (countOf (g .state)) (s .n)) x (countOf after p) (countOf after) (s .n)) count-is
             ∙ sym (rise-least (countOf (g .state)) (countOf after) (s .n) p (omega (arith, known, g .tasks))
             (λ q ne. other-made (g .state) p (g .valid) known (next .how) (next .made) q ne) (count.turn-counts (g .state) p p))
 

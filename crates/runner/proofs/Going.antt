@@ -14,7 +14,7 @@ use Rattle.lines.specs.declared.Effect.{Effect}
 use Rattle.lines.specs.Rule.{effectFrom}
 use Rattle.lines.specs.Words.{placeOf}
 use Rattle.counts.specs.declared.Least.{Least}
-use Rattle.counts.specs.Counts.{lowest, leastOf, closesOf}
+use Rattle.counts.specs.Counts.{lowest, leastAmong, closesOf}
 use Rattle.counts.specs.CountsLaws.{KeptOrRaised, least-same}
 use Rattle.machine.specs.declared.State.{State}
 use Rattle.machine.specs.declared.Move.{Move}
@@ -52,7 +52,7 @@ pub record Mirrors (n : ℕ) (counts : List ℕ) (state : State) : Type 0 where
 
 -- the least of them
 mirrors-least : {n : ℕ} {counts : List ℕ} {state : State} → Mirrors n counts state → 0 < n
-    → leastOf (λ q. getD counts q 0) (length counts) ≡ leastOf (countOf state) n
+    → leastAmong (λ q. getD counts q 0) (length counts) ≡ leastAmong (countOf state) n
 mirrors-least {n} {counts} {state} k some =
     rw (k .long) (least-same (countOf state) (λ q. getD counts q 0) n some (k .at))
 
@@ -70,7 +70,7 @@ pub record Going (s : State) (schedule log₀ : List ℕ) (i : ℕ) (state : Sta
   pub tasks : state .n ≡ s .n
   pub parents : state .parents ≡ s .parents
   pub mirrors : Mirrors (s .n) (held .counts) state
-  pub lowest : held .least ≡ leastOf (countOf state) (s .n)
+  pub lowest : held .least ≡ leastAmong (countOf state) (s .n)
 
 -- the counts as they are lent
 mirrors-lent : (s : State) (counts : List ℕ) → Valid s → counts ≡ take (s .n) (countsOf s) → Mirrors (s .n) counts s
@@ -83,7 +83,7 @@ mirrors-lent s counts ok lent =
 
 -- before the first turn
 pub going-none : (s : State) (schedule log₀ counts : List ℕ) (least : Least) → Valid s → counts ≡ take (s .n) (countsOf s)
-    → least ≡ leastOf (λ q. getD counts q 0) (length counts)
+    → least ≡ leastAmong (λ q. getD counts q 0) (length counts)
     → Going s schedule log₀ 0 s (record { counts = counts; least = least }) log₀
 unfolding traceOf logOf
 going-none s schedule log₀ counts least ok lent e =
@@ -101,7 +101,7 @@ going-none s schedule log₀ counts least ok lent e =
 
 -- the least count before the first turn
 pub first-least : (s : State) (counts : List ℕ) (least : Least) → Valid s → counts ≡ take (s .n) (countsOf s)
-    → least ≡ leastOf (λ q. getD counts q 0) (length counts) → least .count ≡ count.least s
+    → least ≡ leastAmong (λ q. getD counts q 0) (length counts) → least .count ≡ count.least s
 first-least s counts least ok lent e =
     ap (λ (l : Least). l .count) (going-none s [] [] counts least ok lent e .lowest) ∙ sym (least-is s)
 
@@ -212,7 +212,7 @@ module _ {s : State} {schedule log₀ : List ℕ} {i : ℕ} {state : State} {hel
   own-count : getD (held .counts) p 0 ≡ countOf state p
   own-count = g .mirrors .at p (rw (← g .tasks) known)
 
-  pub least-there : held .least ≡ leastOf (λ q. getD (held .counts) q 0) (length (held .counts))
+  pub least-there : held .least ≡ leastAmong (λ q. getD (held .counts) q 0) (length (held .counts))
   least-there = g .lowest ∙ sym (mirrors-least (g .mirrors) (rw (← g .tasks) (range state (g .valid) .some)))
 
   module _ (e : Effect) (does : e ≡ effectOf state p) where
@@ -221,8 +221,8 @@ module _ {s : State} {schedule log₀ : List ℕ} {i : ℕ} {state : State} {hel
         → outcomeOf (e .act) closed (movesAt state p) (waitsAt state p) ≡ answerOf state p e
     answer-is closed c =
         ap (λ (x : ℕ). outcomeOf (e .act) x (movesAt state p) (waitsAt state p))
-        (c ∙ ap (λ (l : Least). closesOf l (countOf state p) (e .task .count)) (g .lowest ∙ ap (leastOf (countOf state)) (sym (g .tasks)))
-        ∙ subst (λ (x : Effect). closesOf (leastOf (countOf state) (state .n)) (countOf state p) (x .task .count) ≡ closedBy state (movedTo state p (x .task) (x .write)))
+        (c ∙ ap (λ (l : Least). closesOf l (countOf state p) (e .task .count)) (g .lowest ∙ ap (leastAmong (countOf state)) (sym (g .tasks)))
+        ∙ subst (λ (x : Effect). closesOf (leastAmong (countOf state) (state .n)) (countOf state p) (x .task .count) ≡ closedBy state (movedTo state p (x .task) (x .write)))
         (sym does) (closed-is state p (g .valid) known))
 
     -- its count stays or rises by one
@@ -307,7 +307,7 @@ module _ {s : State} {schedule log₀ : List ℕ} {i : ℕ} {state : State} {hel
       pub goes-on : (byte : ℕ) (state′ : State) (counts′ : List ℕ) (least′ : Least) (tail : List ℕ) → byte ≡ moveNumber how → 2 * i + 2 ≤ length log₀
           → state′ ≡ stored state p e how
           → counts′ ≡ set (held .counts) p (e .task .count)
-          → least′ ≡ leastOf (λ q. getD counts′ q 0) (length (held .counts))
+          → least′ ≡ leastAmong (λ q. getD counts′ q 0) (length (held .counts))
           → tail ≡ set (set (take (length log - 2 * i) (drop (2 * i) log)) 0 (taskAt state p .line)) 1 byte
           → Going s schedule log₀ (i + 1) state′ (record { counts = counts′; least = least′ }) (putMid (2 * i) (length log - 2 * i) log tail)
       goes-on byte state′ counts′ least′ tail eb room es ec el et =
@@ -322,7 +322,7 @@ module _ {s : State} {schedule log₀ : List ℕ} {i : ℕ} {state : State} {hel
             parents = turn-constants state p .parents ∙ g .parents;
             mirrors = after;
             lowest =
-                el ∙ ap (leastOf (λ q. getD counts′ q 0)) (g .mirrors .long ∙ sym (after .long))
+                el ∙ ap (leastAmong (λ q. getD counts′ q 0)) (g .mirrors .long ∙ sym (after .long))
                 ∙ mirrors-least after (rw (← g .tasks) (range state (g .valid) .some));
           })
         where

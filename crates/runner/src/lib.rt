@@ -9,7 +9,7 @@ ghost use mathlib.Core.Path.{_≡_};
 ghost use mathlib.Core.Bool.{true};
 ghost use Prim.Native.Nat.{_*_, _≤_, _<_};
 ghost use lib.ListN.{length, getD, take, set};
-ghost use Rattle.counts.specs.Counts.{leastOf};
+ghost use Rattle.counts.specs.Counts.{leastAmong};
 ghost use Rattle.counts.specs.CountsLaws.{KeptOrRaised};
 ghost use Rattle.machine.specs.Range.{Valid, tableOf};
 ghost use Rattle.machine.specs.Least.{countsOf};
@@ -99,10 +99,10 @@ fn report(
 // risen.
 fn store_count(counts: &mut [u32], least: Least, task: usize, next: u32) -> Least
     requires { ⌜ task < length (now counts) ⌝ }
-    requires { ⌜ least ≡ leastOf (λ q. getD (now counts) q 0) (length (now counts)) ⌝ }
+    requires { ⌜ least ≡ leastAmong (λ q. getD (now counts) q 0) (length (now counts)) ⌝ }
     requires { ⌜ KeptOrRaised (getD (now counts) task 0) next ⌝ }
     ensures { λ _. ⌜ now (counts .exit) ≡ set (now (counts .entry)) task next ⌝ }
-    ensures { λ r. ⌜ r ≡ leastOf (λ q. getD (now (counts .exit)) q 0) (length (now (counts .entry))) ⌝ }
+    ensures { λ r. ⌜ r ≡ leastAmong (λ q. getD (now (counts .exit)) q 0) (length (now (counts .entry))) ⌝ }
 {
     let count = counts[task];
     counts[task] = next;

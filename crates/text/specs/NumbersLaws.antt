@@ -10,7 +10,7 @@ use lib.ListN.{length, take, drop, set, getD, length-append, length-take, length
 use lib.Seq.{take-at, take-all, take-nil, ext-getD}
 use borrow.Author.Tests.{le-ltb, ne-eqb, leb-true, le-leb, lt-leb}
 use Rattle.bitset.specs.ChoiceLaws.{by-test}
-use Rattle.bitset.specs.TasksLaws.{Alike}
+use Rattle.bitset.specs.TasksLaws.{StandIn}
 use Rattle.text.specs.declared.read.Found.{Found}
 use Rattle.text.specs.declared.read.Found.the-variants.{Count, Bad}
 use Rattle.text.specs.Numbers.{isDigit, isSpace, ended, numbersFrom, maxText, numbersOf, foundOf, over, numbersOver, low}
@@ -136,5 +136,5 @@ low-rest (suc k) [] = refl
 low-rest (suc k) (x ∷ xs) = low-rest k xs
 
 -- a byte stands for its number among the numbers of tasks
-pub low-alike : Alike low
+pub low-alike : StandIn low
 low-alike = record { zeros = low-zero; below = λ x n h. low-below x n (omega arith); same = λ x h. low-same x (omega arith) }

@@ -6,7 +6,7 @@ use Prim.Native.Nat.{ℕ, _-_, _≤_}
 use native.Mathlib.Omega.{arith}
 use lib.ListN.{length, getD}
 use Rattle.counts.specs.declared.Least.{Least}
-use Rattle.counts.specs.Counts.{lowest, leastOf, joinedOf}
+use Rattle.counts.specs.Counts.{lowest, leastAmong, joinedOf}
 use Rattle.counts.specs.CountsLaws.{lowest-first, standing-none, standing-few, least-more}
 use Rattle.counts.proofs.least_of.Statement.{statement}
 use Rattle.counts.proofs.least_of.Tie as tie
@@ -16,7 +16,7 @@ abbrev at : List ℕ → ℕ → ℕ
 at counts q = getD counts q 0
 
 abbrev Inv-loop : tie.InvT-loop
-Inv-loop counts least₀ q₀ least q = (q ≤ length counts) × (least ≡ leastOf (at counts) q)
+Inv-loop counts least₀ q₀ least q = (q ≤ length counts) × (least ≡ leastAmong (at counts) q)
 
 abbrev μ-loop : tie.MeasureT-loop
 μ-loop counts least₀ q₀ least q = length counts - q

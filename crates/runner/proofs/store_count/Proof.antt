@@ -9,7 +9,7 @@ use lib.ListN.{length, getD, set, length-set}
 use lib.Seq.{getD-set-same, getD-set-other}
 use Rattle.bitset.specs.Choice.{pick}
 use Rattle.counts.specs.declared.Least.{Least}
-use Rattle.counts.specs.Counts.{leastOf, risenOf}
+use Rattle.counts.specs.Counts.{leastAmong, risenOf}
 use Rattle.counts.specs.CountsLaws.{KeptOrRaised, rise-least}
 use Rattle.runner.proofs.store_count.Statement.{statement}
 use Rattle.runner.proofs.store_count.Tie as tie
@@ -20,12 +20,12 @@ at counts q = getD counts q 0
 
 -- the least count once a count is stored
 stored : (l : List ℕ) (p next : ℕ) → p < length l → KeptOrRaised (at l p) next
-    → leastOf (at (set l p next)) (length l)
-    ≡ pick (not (eqb next (at l p)) && eqb (at l p) (leastOf (at l) (length l) .count)) (risenOf (leastOf (at l) (length l)) (at (set l p next)) (length l)) (leastOf (at l) (length l))
+    → leastAmong (at (set l p next)) (length l)
+    ≡ pick (not (eqb next (at l p)) && eqb (at l p) (leastAmong (at l) (length l) .count)) (risenOf (leastAmong (at l) (length l)) (at (set l p next)) (length l)) (leastAmong (at l) (length l))
 stored l p next h c =
     let same : at (set l p next) p ≡ next = getD-set-same l p next 0 h in
-    subst (λ (x : ℕ). leastOf (at (set l p next)) (length l)
-    ≡ pick (not (eqb x (at l p)) && eqb (at l p) (leastOf (at l) (length l) .count)) (risenOf (leastOf (at l) (length l)) (at (set l p next)) (length l)) (leastOf (at l) (length l)))
+    subst (λ (x : ℕ). leastAmong (at (set l p next)) (length l)
+    ≡ pick (not (eqb x (at l p)) && eqb (at l p) (leastAmong (at l) (length l) .count)) (risenOf (leastAmong (at l) (length l)) (at (set l p next)) (length l)) (leastAmong (at l) (length l)))
     same
     (rise-least (at l) (at (set l p next)) (length l) p h (λ q ne. getD-set-other l p q next 0 ne) (rw same c))
 
@@ -33,17 +33,17 @@ stored l p next h c =
 abbrev left : Least → List ℕ → ℕ → ℕ → Bool
 left least l p next = not (eqb next (at l p)) && eqb (at l p) (least .count)
 
-module _ (l : List ℕ) (p next : ℕ) (h : p < length l) (c : KeptOrRaised (at l p) next) (least : Least) (e : least ≡ leastOf (at l) (length l)) where
+module _ (l : List ℕ) (p next : ℕ) (h : p < length l) (c : KeptOrRaised (at l p) next) (least : Least) (e : least ≡ leastAmong (at l) (length l)) where
   -- the same, for what the code holds
-  chosen : (b : Bool) → left least l p next ≡ b → leastOf (at (set l p next)) (length l) ≡ pick b (risenOf least (at (set l p next)) (length l)) least
+  chosen : (b : Bool) → left least l p next ≡ b → leastAmong (at (set l p next)) (length l) ≡ pick b (risenOf least (at (set l p next)) (length l)) least
   chosen b t =
-      subst (λ (x : Least). left x l p next ≡ b → leastOf (at (set l p next)) (length l) ≡ pick b (risenOf x (at (set l p next)) (length l)) x)
+      subst (λ (x : Least). left x l p next ≡ b → leastAmong (at (set l p next)) (length l) ≡ pick b (risenOf x (at (set l p next)) (length l)) x)
       (sym e) (λ u. rw u at (stored l p next h c)) t
 
-  kept : left least l p next ≡ false → least ≡ leastOf (at (set l p next)) (length l)
+  kept : left least l p next ≡ false → least ≡ leastAmong (at (set l p next)) (length l)
   kept t = sym (chosen false t)
 
-  rose : left least l p next ≡ true → (r : Least) → r ≡ risenOf least (at (set l p next)) (length (set l p next)) → r ≡ leastOf (at (set l p next)) (length l)
+  rose : left least l p next ≡ true → (r : Least) → r ≡ risenOf least (at (set l p next)) (length (set l p next)) → r ≡ leastAmong (at (set l p next)) (length l)
   rose t r q = q ∙ ap (risenOf least (at (set l p next))) (length-set l p next) ∙ sym (chosen true t)
 
 returns : tie.Need-returns

@@ -7,7 +7,7 @@ use lib.ListN.{length}
 use lib.Seq.{length-take-le}
 use borrow.Author.Tests.{eq-eqb}
 use Rattle.counts.specs.declared.Least.{Least}
-use Rattle.counts.specs.Counts.{leastOf, closesOf}
+use Rattle.counts.specs.Counts.{leastAmong, closesOf}
 use Rattle.machine.specs.Least.{countOf}
 use Rattle.machine.specs.RangeLaws.{range}
 use Rattle.machine.specs.RoundLaws.{lent-there, lent-least}
@@ -39,7 +39,7 @@ returns-2 c =
     let s = a .before .before in
     let t = s .args .t1 in
     let r = range t (s .pre .0) in
-    let least : l .least-of .result ≡ leastOf (countOf t) (t .n)
+    let least : l .least-of .result ≡ leastAmong (countOf t) (t .n)
     = l .least-of .ensures ∙ lent-least t (t .n) (r .few) (a .counts .result) (a .counts .ensures) (r .some) in
     c .closes .ensures ∙ ap (λ (x : Least). closesOf x (countOf t (s .args .task)) (s .args .next)) least
 

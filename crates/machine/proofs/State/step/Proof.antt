@@ -4,7 +4,7 @@ use borrow.Author.Needs.{needs}
 use mathlib.Core.Path.{_≡_, sym, ap, _∙_}
 use Prim.Native.Nat.{ℕ, _≤_, _<_}
 use native.Mathlib.Omega.{arith}
-use Rattle.counts.specs.Counts.{leastOf, closesOf}
+use Rattle.counts.specs.Counts.{leastAmong, closesOf}
 use Rattle.lines.specs.declared.Effect.{Effect}
 use Rattle.machine.specs.declared.Move.{Move}
 use Rattle.machine.specs.declared.Outcome.{Outcome}
@@ -46,7 +46,7 @@ answer-is c =
     let e = acted c .effect .ensures in
     c .of .ensures
     ∙ ap (λ (x : ℕ). outcomeOf (acted c .effect .result .act) x (movesAt s p) (waitsAt s p))
-    (closed c .closes .ensures ∙ ap (λ (x : Effect). closesOf (leastOf (countOf s) (s .n)) (countOf s p) (x .task .count)) e
+    (closed c .closes .ensures ∙ ap (λ (x : Effect). closesOf (leastAmong (countOf s) (s .n)) (countOf s p) (x .task .count)) e
     ∙ closed-is s p (start c .pre .0) (start c .pre .1))
     ∙ ap (λ (x : Effect). outcomeOf (x .act) (closedBy s (movedTo s p (effectOf s p .task) (effectOf s p .write))) (movesAt s p) (waitsAt s p)) e
 
