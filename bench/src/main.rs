@@ -1,8 +1,6 @@
-//! Holds the library against the second program, which changes its state in place: compares the answers, or measures both on the same
-//! schedules and texts and prints the tables of docs/performance.md.
+//! Measures the library against the second program, which changes its state in place, on the same schedules and texts, and prints the tables
+//! of docs/performance.md.
 
-mod baseline;
-mod check;
 mod library;
 mod measure;
 mod memory;
@@ -12,11 +10,7 @@ mod tables;
 mod targets;
 mod work;
 
-// The second program, of which not all functions are called. It stands here twice, so that what is compared does not change how what is
-// measured is compiled: a function that only a run calls is compiled into the run.
-#[allow(clippy::duplicate_mod)]
-mod compared;
-#[allow(clippy::duplicate_mod)]
+// The second program, of which not all functions are called.
 mod measured;
 
 use std::process::ExitCode;
@@ -24,7 +18,6 @@ use std::process::ExitCode;
 const USAGE: &str = "\
 usage:
   bench [ROUNDS]    measure, and print the tables; ROUNDS is 1 or more, 31 if none is given
-  bench check       compare the answers of every exported function
   bench stack       print the memory that a process and the stack that a call needs
 ";
 
@@ -33,7 +26,6 @@ fn main() -> ExitCode {
     let words: Vec<&str> = words.iter().map(String::as_str).collect();
     match words[..] {
         [] => tables::print(31),
-        ["check"] => return checked(),
         ["peak", side] => memory::print_own(side),
         ["stack"] => tables::print_memory(),
         ["stack", call, kib] => match kib.parse() {
@@ -47,19 +39,6 @@ fn main() -> ExitCode {
         _ => return wrong(),
     }
     ExitCode::SUCCESS
-}
-
-fn checked() -> ExitCode {
-    match check::check() {
-        Ok(line) => {
-            println!("check: {line}");
-            ExitCode::SUCCESS
-        }
-        Err(difference) => {
-            eprintln!("check: {difference}");
-            ExitCode::FAILURE
-        }
-    }
 }
 
 fn wrong() -> ExitCode {
