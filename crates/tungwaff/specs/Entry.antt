@@ -5,10 +5,11 @@ use Prim.Native.Nat.{ℕ}
 use lib.Dec.{eqb}
 use lib.ListN.{length}
 use Rattle.bitset.specs.Choice.{pick}
+use Rattle.setup.specs.Reasons.{firstReason}
 use Rattle.machine.specs.declared.Turned.{Turned}
 use Rattle.machine.specs.declared.Ready.{Ready}
 use Rattle.machine.specs.declared.Ready.the-variants as ready
-use Rattle.machine.specs.Fresh.{Inputs, inputsOf, firstReason, freshOf}
+use Rattle.machine.specs.Fresh.{Inputs, inputsOf, freshOf}
 use Rattle.machine.specs.Turn.{refusedTurn, turnOf, reasonNumber}
 use Rattle.machine.specs.Ready.{readyOf}
 use Rattle.runner.specs.declared.Ran.{Ran}
