@@ -1,6 +1,5 @@
--- The laws that each barrier has (`Barrier`, over a `View` of the state), and what they share: sums (`Sum`), the turns that move (`Moves`), a
+-- The laws that each barrier has (`Barrier`, over a `View` of the state), and what they share: the turns that move (`Moves`), a
 -- task stored (`Puts`), the moves of a line (`Lines`), how far a state is (`Place`), and how often a task moves at a line (`Times`), at 11 above all (`Work`).
-pub mod Sum
 pub mod View
 pub mod Barrier
 pub mod Moves

@@ -11,6 +11,8 @@ use lib.Dec.{leb, ltb}
 use lib.ListN.{take}
 use borrow.Author.Tests.{le-leb, ltb-true, ltb-false}
 use Rattle.bitset.specs.ChoiceLaws.{by-test}
+use Rattle.bitset.specs.Sum.{sum}
+use Rattle.bitset.specs.SumLaws.{sum-le, sum-same, sum-lt, sum-raise, sum-mul}
 use Rattle.lines.specs.declared.Task.{Task}
 use Rattle.lines.specs.declared.Effect.{Effect}
 use Rattle.lines.specs.declared.Write.the-variants.{Nothing}
@@ -21,10 +23,9 @@ use Rattle.machine.specs.Setters.{taskAt}
 use Rattle.machine.specs.Range.{tableOf}
 use Rattle.machine.specs.Turn.{effectOf, turnOf, reasonNumber}
 use Rattle.machine.specs.TurnLaws.{Constants, constants-written, turn-constants, turn-work, effect-keeps, able-moves, moved-tallied}
-use Rattle.machine.specs.RangeLaws.{TaskRange, range}
+use Rattle.machine.specs.RangeLaws.{TaskIn, range}
 use Rattle.machine.specs.Least.{least}
 use Rattle.machine.specs.LeastLaws.{least-le, least-attained}
-use Rattle.barrier.specs.Sum.{sum, sum-le, sum-same, sum-lt, sum-raise, sum-mul}
 use Rattle.barrier.specs.View.{View, viewOf}
 use Rattle.barrier.specs.Barrier.{Able, moved, Holds, uncounted, timesDone, Barrier}
 use Rattle.barrier.specs.Moves.{moved-able, by-move, own-after, other-after, able-view}
@@ -84,7 +85,7 @@ module _ {kind : ℕ} (b : Barrier kind) where
     abbrev t : Task
     t = taskAt s p
 
-    mine : TaskRange s p t
+    mine : TaskIn s p t
     mine = range s (i .valid) .tasks p (a .0)
 
     -- a move that leads on, in the barrier's own places

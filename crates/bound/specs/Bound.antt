@@ -4,9 +4,9 @@ use mathlib.Core.List.{List}
 use Prim.Native.Nat.{ℕ, _+_, _-_, _*_}
 use lib.Dec.{eqb}
 use Rattle.bitset.specs.Choice.{pick}
-use Rattle.bitset.specs.Tasks.{isCount}
-use Rattle.machine.specs.Fresh.{isKind, worksReason, workOf}
-use Rattle.barrier.specs.Sum.{sum}
+use Rattle.bitset.specs.Sum.{sum}
+use Rattle.setup.specs.Tables.{workOf}
+use Rattle.setup.specs.Reasons.{limitReason}
 use Rattle.bound.specs.declared.Promised.{Promised}
 
 -- demand 3: "M is N(2N+3) symmetric, 5N fetch-and-increment and ring, 10N − 3 tree": with one move of work in a round.
@@ -31,10 +31,7 @@ M kind n work = M₁ kind n + W n work
 abbrev pub promised : ℕ → ℕ → (ℕ → ℕ) → ℕ
 promised kind n work = 2 * M kind n work
 
--- the kind (2), N (3) and the work table (15), in this order; R and the other tables are not asked, since M has no part of them
-abbrev pub limitReason : ℕ → ℕ → List ℕ → ℕ
-limitReason kind n works = pick (isKind kind) (pick (isCount n) (worksReason n works) 3) 2
-
+-- refused for the kind (2), N (3) and the work table (15); R and the other tables are not asked, since M has no part of them
 abbrev pub limitOf : ℕ → ℕ → List ℕ → Promised
 limitOf kind n works =
     record {

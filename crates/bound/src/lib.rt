@@ -1,11 +1,11 @@
 // The bound of demand 3: how many passes, each of which names every task, surely raise the least count. specs/Bound.antt defines it.
-use machine::Setup;
-use machine::State;
+use setup::reasons;
+use setup::tables;
 ghost use mathlib.Core.Path.{_≡_};
 ghost use Prim.Native.Nat.{_≤_};
-ghost use Rattle.machine.specs.Fresh.{lastKind};
-ghost use Rattle.machine.specs.Setters.{taskAt};
-ghost use Rattle.barrier.specs.Sum.{sum};
+ghost use Rattle.bitset.specs.Sum.{sum};
+ghost use Rattle.setup.specs.Kinds.{lastKind};
+ghost use Rattle.setup.specs.Tables.{workOf};
 ghost use Rattle.bound.specs.Bound as defs;
 
 // What `limit` answers: 0 and the passes, or the reason that refused the call and 0.
@@ -28,43 +28,29 @@ fn round_moves(kind: usize, n: usize) -> usize
     5 * n
 }
 
-// The work lengths of the tasks below n, together.
-fn work_sum(state: State, n: usize) -> usize
+// The work lengths of n tasks, together.
+fn work_sum(works: &[u8], n: usize) -> usize
     requires { ⌜ n ≤ 64 ⌝ }
-    ensures { λ r. ⌜ (r ≡ sum n (λ q. taskAt state q .work)) × (r ≤ 16320) ⌝ }
+    ensures { λ r. ⌜ (r ≡ sum n (workOf (now (works .entry)))) × (r ≤ 16320) ⌝ }
 {
     let mut all = 0;
     let mut q = 0;
     while q < n {
-        let task = state.tasks[q];
-        all += task.work as usize;
+        all += tables::work_of(works, q) as usize;
         q += 1;
     }
     all
 }
 
-// The passes that demand 3 promises. A ring takes a work table and no other, so the fresh state of one checks n and the table, and has
-// the work lengths.
+// The passes that demand 3 promises.
 pub fn limit(kind: usize, n: usize, works: &[u8]) -> Promised
     ensures { λ r. ⌜ r ≡ defs.limitOf kind n (now (works .entry)) ⌝ }
 {
-    if 4 < kind {
-        return Promised {
-            reason: 2,
-            passes: 0,
-        };
-    }
-    let ring = Setup {
-        kind: 2,
-        n,
-        modulus: 0,
-    };
-    let fresh = ring.fresh(&[], &[], works);
-    let reason = fresh.reason;
+    let reason = reasons::limit_reason(kind, n, works);
     if reason != 0 {
         return Promised { reason, passes: 0 };
     }
-    let work = work_sum(fresh.state, n) - n;
+    let work = work_sum(works, n) - n;
     Promised {
         reason: 0,
         passes: 2 * (round_moves(kind, n) + work),

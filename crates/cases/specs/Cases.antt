@@ -3,11 +3,14 @@ use mathlib.Core.Path.{_≡_, refl}
 use mathlib.Core.List.{List, [], _∷_, _++_}
 use Prim.Native.Nat.{ℕ}
 use lib.ListN.{replicate}
+use Rattle.setup.specs.Tables.{allWithin}
+use Rattle.setup.specs.Reasons.{setupReason}
+use Rattle.setup.specs.Range.{sharedOk, taskOk, taskZero}
 use Rattle.machine.specs.declared.State.{State}
 use Rattle.machine.specs.declared.Setup.{Setup}
 use Rattle.machine.specs.Setters.{taskAt}
-use Rattle.machine.specs.Fresh.{inputsOf, freshOf, freshReason, allBelow}
-use Rattle.machine.specs.Range.{taskOk, taskZero, tasksOk, stateOk, checkState}
+use Rattle.machine.specs.Fresh.{inputsOf, freshOf, freshReason}
+use Rattle.machine.specs.Range.{tasksOk, stateOk, checkState}
 use Rattle.lines.specs.Symmetric.{symmetricLine}
 use Rattle.lines.specs.Increment.{incrementLine}
 use Rattle.lines.specs.Ring.{ringLine}
@@ -30,7 +33,7 @@ use lib.Count.{trailingZeros}
 
 -- Every definition that the cases compute by: a proof that unfolds this one unfolds them.
 unfoldable pub computing : ℕ
-unfolding least lowest freshOf freshReason turnOf stepOf effectOf checkState stateOk tasksOk taskOk taskZero allBelow symmetricLine incrementLine ringLine treeGather treeMeet treeRelease centralizedLine table withinDigits put firstOf trailingZeros entriesOk checkOf childrenBelow namesAll passesFrom pairsFrom unknownAt passesAnswer pairsAfter shapeTable shapeOf tableAfter
+unfolding least lowest freshOf freshReason turnOf stepOf effectOf checkState stateOk tasksOk sharedOk taskOk taskZero allWithin setupReason symmetricLine incrementLine ringLine treeGather treeMeet treeRelease centralizedLine table withinDigits put firstOf trailingZeros entriesOk checkOf childrenBelow namesAll passesFrom pairsFrom unknownAt passesAnswer pairsAfter shapeTable shapeOf tableAfter
 computing = 0
 
 abbrev pub setup : ℕ → ℕ → ℕ → Setup

@@ -7,7 +7,6 @@ use Rattle.lines.specs.Setters.{withAim, withOwn}
 use Rattle.machine.specs.declared.State.{State}
 use Rattle.machine.specs.declared.Ready.the-variants.{Task}
 use Rattle.machine.specs.Setters.{taskAt, withTask, withArrivals}
-use Rattle.machine.specs.Fresh.{allWork}
 use Rattle.machine.specs.Ready.{readyFrom, readyOf}
 use Rattle.parents.specs.Shapes.{shapeOf}
 use Rattle.cases.specs.Cases.{computing, fresh, after, lines, outcomes, moved, waited}
@@ -62,7 +61,7 @@ pub record CountedDown : Type 0 where
   pub shapes : map (λ shape. shapeOf shape 2 2) (3 ∷ 4 ∷ []) ≡ 0 ∷ 2 ∷ []
 
 pub counted-down : CountedDown
-unfolding computing allWork readyFrom readyOf
+unfolding computing readyFrom readyOf
 counted-down =
     record {
       begin = (refl, refl);

@@ -8,7 +8,7 @@ use Rattle.lines.specs.Setters.{withLine, withWork, withLeft}
 use Rattle.lines.specs.Common.{work}
 use Rattle.machine.specs.declared.State.{State}
 use Rattle.machine.specs.Setters.{taskAt, withTask}
-use Rattle.machine.specs.Fresh.{inputsOf, taskWith, allWork, freshOf}
+use Rattle.machine.specs.Fresh.{inputsOf, taskWith, freshOf}
 use Rattle.runner.specs.Trace.{traceOf}
 use Rattle.runner.specs.Run.{logOf, runReason, logAfter}
 use Rattle.barrier.specs.Times.{timesAt}
@@ -65,7 +65,7 @@ pub record Worked : Type 0 where
       × (outcomes (leftTo (after two (replicate 3 0)) 0 1) (0 ∷ []) ≡ moved 0 ∷ [])
 
 pub worked : Worked
-unfolding computing allWork logAfter runReason traceOf logOf
+unfolding computing logAfter runReason traceOf logOf
 worked =
     record {
       begin = (refl, refl, refl, refl);

@@ -5,6 +5,8 @@ use mathlib.Core.Logic.{_≢_, _⊎_, inl, inr}
 use Prim.Native.Nat.{ℕ, zero, suc, _+_, _-_, _*_, _≤_, _<_}
 use native.Mathlib.Nat.{le-refl}
 use native.Mathlib.Omega.{arith}
+use Rattle.bitset.specs.Sum.{sum}
+use Rattle.bitset.specs.SumLaws.{sum-same, sum-add, sum-const}
 use Rattle.lines.specs.Common.{maxCount}
 use Rattle.machine.specs.declared.State.{State}
 use Rattle.machine.specs.Setters.{taskAt}
@@ -14,7 +16,6 @@ use Rattle.machine.specs.TurnLaws.{turn-constants}
 use Rattle.machine.specs.RangeLaws.{range}
 use Rattle.machine.specs.Least.{least}
 use Rattle.machine.specs.CountLaws.{turn-least}
-use Rattle.barrier.specs.Sum.{sum, sum-same, sum-add, sum-const}
 use Rattle.barrier.specs.View.{viewOf}
 use Rattle.barrier.specs.Barrier.{Able, Holds, Barrier}
 use Rattle.barrier.specs.Moves.{keeps-all}

@@ -2,15 +2,17 @@
 use mathlib.Core.Path.{_≡_, refl, sym, ap, _∙_}
 use mathlib.Core.List.{List, [], _∷_}
 use Prim.Native.Nat.{ℕ, _<_}
-use borrow.Author.Tests.{le-leb}
 use Rattle.schedule.specs.Stretch.{CutInto}
+use Rattle.setup.specs.Tables.{workOf}
+use Rattle.setup.specs.Reasons.{limitReason}
+use Rattle.setup.specs.ReasonsLaws.{limit-accepted}
 use Rattle.machine.specs.declared.State.{State}
-use Rattle.machine.specs.Fresh.{Inputs, lastKind, freshReason, freshState, freshOf, workOf}
+use Rattle.machine.specs.Fresh.{Inputs, freshReason, freshState, freshOf}
 use Rattle.machine.specs.FreshLaws.{accepted-inputs, fresh-accepted, fresh-work}
 use Rattle.machine.specs.Turn.{turnOf}
 use Rattle.machine.specs.TurnLaws.{turn-constants, turn-work}
 use Rattle.machine.specs.Least.{least}
-use Rattle.bound.specs.Bound.{limitReason, limitOf}
+use Rattle.bound.specs.Bound.{limitOf}
 use Rattle.bound.specs.BoundLaws.{promised-same}
 use Rattle.guarantee.specs.Calls.{Call, afterAll, countedAll, Reached, fresh, called, after, worksOf, promisedIn}
 use Rattle.barrier.specs.Work.{afterTurns}
@@ -38,13 +40,13 @@ reached-all s r (c ∷ cs) = reached-all (after s c) (called s r c) cs
 
 -- the inputs of an accepted fresh state have a limit
 module _ (i : Inputs) (e : freshReason i ≡ 0) where
-  accepted-limit : limitReason (i .kind) (i .n) (i .works) ≡ 0
-  accepted-limit =
+  has-limit : limitReason (i .kind) (i .n) (i .works) ≡ 0
+  has-limit =
       let a = accepted-inputs i e in
-      rw (le-leb (i .kind) lastKind (a .kind), le-leb 1 (i .n) (a .some), le-leb (i .n) 64 (a .few)) (a .works)
+      limit-accepted (i .kind) (i .n) (i .works) (record { known = a .kind; some = a .some; few = a .few }) (a .works)
 
   fresh-promise : limitOf (i .kind) (i .n) (i .works) .passes ≡ promisedIn (freshState i)
-  fresh-promise = rw accepted-limit (promised-same (i .kind) (i .n) (workOf (i .works)) (worksOf (freshState i)) (λ q h. sym (fresh-work i q h)))
+  fresh-promise = rw has-limit (promised-same (i .kind) (i .n) (workOf (i .works)) (worksOf (freshState i)) (λ q h. sym (fresh-work i q h)))
 
   -- after any calls, `limit` tells what is promised there
   pub limit-tells : (cs : List Call) → limitOf (i .kind) (i .n) (i .works) .passes ≡ promisedIn (afterAll (freshOf i .state) cs)

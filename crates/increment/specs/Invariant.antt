@@ -3,8 +3,8 @@
 use mathlib.Core.Path.{_≡_}
 use mathlib.Core.Logic.{_≢_}
 use Prim.Native.Nat.{ℕ, _+_, _*_, _≤_, _<_}
+use Rattle.bitset.specs.Sum.{sum}
 use Rattle.lines.specs.declared.Task.{Task}
-use Rattle.barrier.specs.Sum.{sum}
 use Rattle.barrier.specs.View.{View}
 
 -- aim ≠ sense, both being 0 or 1

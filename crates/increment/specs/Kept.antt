@@ -6,17 +6,20 @@ use native.Mathlib.Omega.{arith}
 use lib.Dec.{eqb}
 use borrow.Author.Tests.{eqb-true, eqb-false}
 use Rattle.bitset.specs.ChoiceLaws.{by-test}
+use Rattle.bitset.specs.Sum.{sum}
+use Rattle.bitset.specs.SumLaws.{sum-same, sum-const, sum-put, sum-full}
 use Rattle.lines.specs.declared.Task.{Task}
 use Rattle.lines.specs.Setters.{withLine, withAim, withLeft}
 use Rattle.lines.specs.Common.{raised}
 use Rattle.lines.specs.Common.{negated}
+use Rattle.setup.specs.Kinds.{hasSense}
+use Rattle.setup.specs.RangeLaws.{below}
 use Rattle.machine.specs.declared.State.{State}
 use Rattle.machine.specs.Setters.{taskAt, withTask}
-use Rattle.machine.specs.Fresh.{Inputs, freshReason, freshTask, freshState, hasSense, freshArrivals}
+use Rattle.machine.specs.Fresh.{Inputs, freshReason, freshTask, freshState, freshArrivals}
 use Rattle.machine.specs.Turn.{written}
-use Rattle.machine.specs.RangeLaws.{range, below}
+use Rattle.machine.specs.RangeLaws.{range}
 use Rattle.machine.specs.FreshLaws.{fresh-at, accepted-inputs}
-use Rattle.barrier.specs.Sum.{sum, sum-same, sum-const, sum-put, sum-full}
 use Rattle.barrier.specs.View.{viewOf}
 use Rattle.barrier.specs.Barrier.{Able, moved, Holds}
 use Rattle.barrier.specs.Puts.{Puts, at-task, stored}

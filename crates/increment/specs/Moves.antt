@@ -4,6 +4,8 @@ use Prim.Native.Nat.{ℕ, _+_, _≤_, _<_}
 use native.Mathlib.Nat.{le-of-suc-le-suc, lt-of-not-le}
 use native.Mathlib.Omega.{arith}
 use borrow.Author.Tests.{eq-eqb, lt-ltb, lt-leb}
+use Rattle.bitset.specs.Sum.{sum}
+use Rattle.bitset.specs.SumLaws.{sum-le, sum-const}
 use Rattle.lines.specs.declared.Task.{Task}
 use Rattle.lines.specs.declared.Effect.{Effect}
 use Rattle.lines.specs.declared.Act.the-variants.{Moves}
@@ -14,8 +16,7 @@ use Rattle.machine.specs.Setters.{taskAt}
 use Rattle.machine.specs.TurnLaws.{effect-1}
 use Rattle.machine.specs.Least.{least}
 use Rattle.machine.specs.LeastLaws.{least-le, least-attained}
-use Rattle.machine.specs.RangeLaws.{TaskRange, range}
-use Rattle.barrier.specs.Sum.{sum, sum-le, sum-const}
+use Rattle.machine.specs.RangeLaws.{TaskIn, range}
 use Rattle.barrier.specs.Barrier.{Able, Holds}
 use Rattle.barrier.specs.Lines.{work-moves}
 use Rattle.increment.specs.Invariant.{Stage, outside, entering, leaving, guest, Gathering, Opening, Phase, gathering, full, cleared, Inv}
@@ -37,7 +38,7 @@ module _ (s : State) (p : ℕ) (i : Holds 1 Inv s) (h : p < s .n) where
       Acts : Effect → Type 0
       Acts e = e .act ≡ Moves
 
-      mine : TaskRange s p t
+      mine : TaskIn s p t
       mine = range s (i .valid) .tasks p h
 
       last : t .line ≤ 16

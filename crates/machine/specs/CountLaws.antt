@@ -19,8 +19,8 @@ use Rattle.machine.specs.declared.Outcome.{Outcome}
 use Rattle.machine.specs.declared.Outcome.the-variants.{Made, Refused}
 use Rattle.machine.specs.Setters.{taskAt, movesAt, waitsAt, withTask}
 use Rattle.machine.specs.Tally.{maxTally}
-use Rattle.machine.specs.Range.{Valid}
-use Rattle.machine.specs.Turn.{sharedOf, effectOf, written, answerOf, applied, turnOf, reasonNumber}
+use Rattle.machine.specs.Range.{sharedOf, Valid}
+use Rattle.machine.specs.Turn.{effectOf, written, answerOf, applied, turnOf, reasonNumber}
 use Rattle.machine.specs.TurnLaws.{by-turn, turn-unknown, effect-does, step-state, Full, refusal-acts, turn-constants, own-field, other-field}
 use Rattle.machine.specs.RangeLaws.{range, present}
 use Rattle.machine.specs.Least.{least}

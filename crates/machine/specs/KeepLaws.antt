@@ -10,14 +10,17 @@ use native.Mathlib.Omega.{arith}
 use lib.Dec.{eqb, leb, ltb}
 use lib.ListN.{length, getD, length-take, length-set}
 use lib.Seq.{getD-set-same, getD-set-other, set-out}
-use borrow.Author.Tests.{ne-eqb, lt-ltb, le-ltb, le-leb, ltb-true, leb-false, eqb-true, eqb-false}
+use borrow.Author.Tests.{ne-eqb, lt-ltb, le-leb, ltb-true, leb-false, eqb-true, eqb-false}
 use Rattle.bitset.specs.Choice.{pick}
 use Rattle.bitset.specs.ChoiceLaws.{by-test}
 use Rattle.bitset.specs.Set.{bit, withinOf, allOf, leastOf, firstOf, withoutOf}
-use Rattle.bitset.specs.SetLaws.{bit-zero, all-past, all-lt, least-of-list, first-member, within-lt, within-member, within-self, without-within}
+use Rattle.bitset.specs.SetLaws.{all-lt, least-of-list, first-member, within-lt, within-member, within-self, without-within}
 use Rattle.parents.specs.Parents.{childrenOf}
-use Rattle.parents.specs.ParentsLaws.{children-bit, children-lt}
+use Rattle.parents.specs.ParentsLaws.{children-lt}
 use Rattle.lines.specs.declared.Task.{Task}
+use Rattle.setup.specs.Kinds.{hasSense, lastLine}
+use Rattle.setup.specs.Range.{fieldOk, listRoom, taskZero}
+use Rattle.setup.specs.RangeLaws.{used, below, modulus-3, line-14, room-past}
 use Rattle.machine.specs.declared.State.{State}
 use Rattle.machine.specs.declared.Move.{Move}
 use Rattle.machine.specs.declared.Move.the-variants.{Moved, Waited}
@@ -29,10 +32,9 @@ use Rattle.lines.specs.declared.Act.the-variants.{Moves, Waits, Refuses}
 use Rattle.lines.specs.declared.Write.{Write}
 use Rattle.lines.specs.declared.Write.the-variants.{Nothing, Arrivals, Sense, Toggle, Flag}
 use Rattle.lines.specs.Setters.{withLine, withTag, withOld, withList, withToggle, withFlag}
-use Rattle.machine.specs.Setters.{taskAt, withTask, withTasks, withArrivals, withSense, withMoves, withWaits}
+use Rattle.machine.specs.Setters.{taskAt, withTask, withArrivals, withSense, withMoves, withWaits}
 use Rattle.machine.specs.Tally.{maxTally, tallied}
-use Rattle.machine.specs.Fresh.{hasSense}
-use Rattle.machine.specs.Range.{tableOf, lastLine, fieldOk, listRoom, taskZero, tallyOk, Valid}
+use Rattle.machine.specs.Range.{sharedOf, tableOf, tallyOk, Valid}
 use Rattle.lines.specs.Common.{maxCount, negated, moves, awaits, work, raised, counts, choose, takeOff}
 use Rattle.lines.specs.Symmetric.{nextTag, symmetricLine}
 use Rattle.lines.specs.Increment.{incrementLine}
@@ -41,17 +43,13 @@ use Rattle.lines.specs.Tree.{treeLine}
 use Rattle.lines.specs.Centralized.{centralizedLine}
 use Rattle.lines.specs.Words.{placeOf}
 use Rattle.lines.specs.LineLaws.{by-kind, by-symmetric, by-increment, by-ring, by-tree, by-centralized, Does, keeps, raises, stays, refused-7, refused-11}
-use Rattle.machine.specs.Turn.{sharedOf, effectOf, written, movedTo, applied, turnOf}
+use Rattle.machine.specs.Turn.{effectOf, written, movedTo, applied, turnOf}
 use Rattle.machine.specs.TurnLaws.{effect-does, Makes, turn-makes, turn-applied, written-tallies, moved-n, put-same, put-other}
-use Rattle.machine.specs.RangeLaws.{TaskRange, Tallies, InRange, range, valid, present, line-14, used, below, modulus-3}
+use Rattle.machine.specs.RangeLaws.{TaskIn, Tallies, InRange, range, valid, present}
 
 -- ---- storing keeps the range
 
--- the range of a task speaks of no other task
-re-tasks : (s : State) (q : ℕ) (t : Task) (x : List Task) → TaskRange s q t → TaskRange (withTasks s x) q t
-re-tasks s q t x r = search
-
-keep-task : (s : State) (p : ℕ) (t : Task) → InRange s → p < s .n → TaskRange s p t → InRange (withTask s p t)
+keep-task : (s : State) (p : ℕ) (t : Task) → InRange s → p < s .n → TaskIn s p t → InRange (withTask s p t)
 keep-task s p t r h tr =
     record {
       kind = r .kind;
@@ -61,17 +59,17 @@ keep-task s p t r h tr =
       arrivals = r .arrivals;
       sense = r .sense;
       parents = r .parents;
-      tasks = λ q l. re-tasks s q (taskAt (withTask s p t) q) _ (at q l (ℕ-discrete q p));
+      tasks = λ q l. at q l (ℕ-discrete q p);
       rest = λ q m l. subst (λ (x : Task). taskZero x ≡ true) (sym (put-other s p q t (omega arith))) (r .rest q m l);
       moves = r .moves;
       waits = r .waits;
     }
   where
-    at : (q : ℕ) → q < s .n → Dec (q ≡ p) → TaskRange s q (taskAt (withTask s p t) q)
+    at : (q : ℕ) → q < s .n → Dec (q ≡ p) → TaskIn s q (taskAt (withTask s p t) q)
     at q l (yes e) =
-        subst (λ (x : ℕ). TaskRange s x (taskAt (withTask s p t) x)) (sym e)
-        (subst (TaskRange s p) (sym (put-same s p t (present s p (r .tasks p h .line-from)))) tr)
-    at q l (no ne) = subst (TaskRange s q) (sym (put-other s p q t ne)) (r .tasks q l)
+        subst (λ (x : ℕ). TaskIn s x (taskAt (withTask s p t) x)) (sym e)
+        (subst (TaskIn s p) (sym (put-same s p t (present s p (r .tasks p h .line-from)))) tr)
+    at q l (no ne) = subst (TaskIn s q) (sym (put-other s p q t ne)) (r .tasks q l)
 
 -- what a line may write besides its own task
 abbrev WriteOk : State → Write → Type 0
@@ -81,16 +79,16 @@ WriteOk s (Sense x) = fieldOk (hasSense (s .kind)) 2 x ≡ true
 WriteOk s (Toggle q x) = (q < s .n) × (fieldOk (eqb (s .kind) 2) 2 x ≡ true)
 WriteOk s (Flag q x) = (q < s .n) × (fieldOk (eqb (s .kind) 3) 2 x ≡ true)
 
-re-toggle : (s : State) (q : ℕ) (t : Task) (x : ℕ) → TaskRange s q t → fieldOk (eqb (s .kind) 2) 2 x ≡ true → TaskRange s q (withToggle t x)
+re-toggle : (s : State) (q : ℕ) (t : Task) (x : ℕ) → TaskIn s q t → fieldOk (eqb (s .kind) 2) 2 x ≡ true → TaskIn s q (withToggle t x)
 re-toggle s q t x r h = search
 
-re-flag : (s : State) (q : ℕ) (t : Task) (x : ℕ) → TaskRange s q t → fieldOk (eqb (s .kind) 3) 2 x ≡ true → TaskRange s q (withFlag t x)
+re-flag : (s : State) (q : ℕ) (t : Task) (x : ℕ) → TaskIn s q t → fieldOk (eqb (s .kind) 3) 2 x ≡ true → TaskIn s q (withFlag t x)
 re-flag s q t x r h = search
 
-re-arrivals : (s : State) (q : ℕ) (t : Task) (x : ℕ) → TaskRange s q t → TaskRange (withArrivals s x) q t
+re-arrivals : (s : State) (q : ℕ) (t : Task) (x : ℕ) → TaskIn s q t → TaskIn (withArrivals s x) q t
 re-arrivals s q t x r = search
 
-re-sense : (s : State) (q : ℕ) (t : Task) (x : ℕ) → TaskRange s q t → TaskRange (withSense s x) q t
+re-sense : (s : State) (q : ℕ) (t : Task) (x : ℕ) → TaskIn s q t → TaskIn (withSense s x) q t
 re-sense s q t x r = search
 
 keep-written : (w : Write) (s : State) → InRange s → WriteOk s w → InRange (written w s)
@@ -130,30 +128,19 @@ keep-written (Flag q x) s r ok = keep-task s q _ r (ok .0) (re-flag s q (taskAt 
 
 -- what a move leaves is in range; a wait and a refusal leave nothing
 abbrev Good : State → ℕ → Act → Task → Write → Type 0
-Good s p Moves t w = TaskRange s p t × WriteOk s w
+Good s p Moves t w = TaskIn s p t × WriteOk s w
 Good s p Waits t w = Unit {0}
 Good s p (Refuses k) t w = Unit {0}
 
 abbrev GoodEffect : State → ℕ → Effect → Type 0
 GoodEffect s p e = Good s p (e .act) (e .task) (e .write)
 
--- no list holds a task of N or more
-room-past : (s : State) (q j : ℕ) → InRange s → s .n ≤ j → bit (listRoom s q) j ≡ 0
-room-past s q j r h =
-    by-test (λ x. bit x j ≡ 0) (eqb (s .kind) 0) (λ _. all-past (s .n) j h)
-    (λ _. by-test (λ x. bit x j ≡ 0) (eqb (s .kind) 3)
-    (λ _. children-bit (tableOf s) q (length (tableOf s)) j (omega (arith, short, r .few)) ∙ rw (le-ltb j (length (tableOf s)) (omega (arith, short))))
-    (λ _. bit-zero j))
-  where
-    short : length (tableOf s) ≤ s .n
-    short = omega (arith, length-take (s .n) (s .parents))
-
 module _ (s : State) (p : ℕ) (r : InRange s) (h : p < s .n) where
-  tr : TaskRange s p (taskAt s p)
+  tr : TaskIn s p (taskAt s p)
   tr = r .tasks p h
 
   list-lt : taskAt s p .list < 2 ^ 64
-  list-lt = within-lt 64 (taskAt s p .list) (listRoom s p) (tr .list)
+  list-lt = within-lt 64 (taskAt s p .list) (listRoom (sharedOf s) (tableOf s) p) (tr .list)
 
   -- the least task of a list is on it
   least-listed : taskAt s p .list ≢ 0 → bit (taskAt s p .list) (leastOf (taskAt s p .list)) ≡ 1
@@ -161,10 +148,10 @@ module _ (s : State) (p : ℕ) (r : InRange s) (h : p < s .n) where
 
   -- a task on a list is a task
   listed-known : (k : ℕ) → bit (taskAt s p .list) k ≡ 1 → k < s .n
-  listed-known k e = lt-of-not-le (λ l. absurd (omega (arith, room-past s p k r l, within-member 64 (taskAt s p .list) (listRoom s p) k (tr .list) e)))
+  listed-known k e = lt-of-not-le (λ l. absurd (omega (arith, room-past (sharedOf s) (tableOf s) p k (omega (arith, length-take (s .n) (s .parents))) (r .few) l, within-member 64 (taskAt s p .list) (listRoom (sharedOf s) (tableOf s) p) k (tr .list) e)))
 
   -- the line alone
-  to-line : (l : ℕ) → 11 ≤ l → l ≤ lastLine (s .kind) → TaskRange s p (withLine (taskAt s p) l)
+  to-line : (l : ℕ) → 11 ≤ l → l ≤ lastLine (s .kind) → TaskIn s p (withLine (taskAt s p) l)
   to-line l a b = let r = tr in search
 
   good-work : GoodEffect s p (work (taskAt s p))
@@ -186,7 +173,7 @@ module _ (s : State) (p : ℕ) (r : InRange s) (h : p < s .n) where
   good-take-off : GoodEffect s p (takeOff (taskAt s p))
   good-take-off =
       let l14 = line-14 (s .kind) (r .kind) in
-      let w = without-within 64 (taskAt s p .list) (listRoom s p) (taskAt s p .looked) (tr .list) in
+      let w = without-within 64 (taskAt s p .list) (listRoom (sharedOf s) (tableOf s) p) (taskAt s p .looked) (tr .list) in
       let o = tr in
       (search arith, tt)
 
@@ -212,7 +199,7 @@ module _ (s : State) (p : ℕ) (r : InRange s) (h : p < s .n) where
           let next : nextTag (s .modulus) (taskAt s p .tag) < s .modulus
           = rw (ne-eqb (s .modulus) 0 (omega arith)) (mod-lt (taskAt s p .tag + 1) (omega arith)) in
           let g = used (eqb (s .kind) 0) (s .modulus) (nextTag (s .modulus) (taskAt s p .tag)) (rw k) next in
-          let w : withinOf (allOf (s .n)) (listRoom s p) ≡ true = rw k (within-self 64 (allOf (s .n)) (all-lt (s .n))) in
+          let w : withinOf (allOf (s .n)) (listRoom (sharedOf s) (tableOf s) p) ≡ true = rw k (within-self 64 (allOf (s .n)) (all-lt (s .n))) in
           let o = tr in
           (search arith, tt)
 
@@ -222,11 +209,11 @@ module _ (s : State) (p : ℕ) (r : InRange s) (h : p < s .n) where
     good-arrives last x few =
         good-counts (moves (withLine (raised (taskAt s p)) (pick last 14 16)) (Arrivals x))
         (λ low. (
-          by-test (λ l. TaskRange s p (withLine (raised (taskAt s p)) l)) last (λ _. up low 14 (omega arith) (omega (arith, l16))) (λ _. up low 16 (omega arith) (omega (arith, l16))),
+          by-test (λ l. TaskIn s p (withLine (raised (taskAt s p)) l)) last (λ _. up low 14 (omega arith) (omega (arith, l16))) (λ _. up low 16 (omega arith) (omega (arith, l16))),
           used (hasSense (s .kind)) (s .n + 1) x shares (omega arith),
         ))
       where
-        up : taskAt s p .count < maxCount → (l : ℕ) → 11 ≤ l → l ≤ lastLine (s .kind) → TaskRange s p (withLine (raised (taskAt s p)) l)
+        up : taskAt s p .count < maxCount → (l : ℕ) → 11 ≤ l → l ≤ lastLine (s .kind) → TaskIn s p (withLine (raised (taskAt s p)) l)
         up low l a b = let o = tr in search arith
 
     good-resets : (x : ℕ) → x ≤ s .n → GoodEffect s p (moves (withLine (taskAt s p) 15) (Arrivals x))
@@ -297,9 +284,9 @@ module _ (s : State) (p : ℕ) (r : InRange s) (h : p < s .n) where
       l18 : lastLine (s .kind) ≡ 18
       l18 = rw k
 
-      listed : (l : ℕ) → 11 ≤ l → l ≤ lastLine (s .kind) → TaskRange s p (withLine (withList (taskAt s p) (childrenOf (tableOf s) p)) l)
+      listed : (l : ℕ) → 11 ≤ l → l ≤ lastLine (s .kind) → TaskIn s p (withLine (withList (taskAt s p) (childrenOf (tableOf s) p)) l)
       listed l a b =
-          let w : withinOf (childrenOf (tableOf s) p) (listRoom s p) ≡ true
+          let w : withinOf (childrenOf (tableOf s) p) (listRoom (sharedOf s) (tableOf s) p) ≡ true
           = rw k (within-self 64 (childrenOf (tableOf s) p) (children-lt (tableOf s) p (length (tableOf s)))) in
           let o = tr in
           search arith
@@ -307,9 +294,9 @@ module _ (s : State) (p : ℕ) (r : InRange s) (h : p < s .n) where
       flagged : fieldOk (eqb (s .kind) 3) 2 (pick (eqb p 0) (taskAt s p .flag) 1) ≡ true
       flagged = by-test (λ x. fieldOk (eqb (s .kind) 3) 2 x ≡ true) (eqb p 0) (λ _. tr .flag) (λ _. used (eqb (s .kind) 3) 2 1 (rw k) (omega arith))
 
-      cleared : TaskRange s p (withList (taskAt s p) (withoutOf (taskAt s p .list) (leastOf (taskAt s p .list))))
+      cleared : TaskIn s p (withList (taskAt s p) (withoutOf (taskAt s p .list) (leastOf (taskAt s p .list))))
       cleared =
-          let w = without-within 64 (taskAt s p .list) (listRoom s p) (leastOf (taskAt s p .list)) (tr .list) in
+          let w = without-within 64 (taskAt s p .list) (listRoom (sharedOf s) (tableOf s) p) (leastOf (taskAt s p .list)) (tr .list) in
           let o = tr in
           search arith
 
@@ -322,7 +309,7 @@ module _ (s : State) (p : ℕ) (r : InRange s) (h : p < s .n) where
 -- ---- the law
 
 -- a state with a move stored is in range
-keep-moved : (s : State) (p : ℕ) (t : Task) (w : Write) → InRange s → p < s .n → TaskRange s p t → WriteOk s w → InRange (written w (withTask s p t))
+keep-moved : (s : State) (p : ℕ) (t : Task) (w : Write) → InRange s → p < s .n → TaskIn s p t → WriteOk s w → InRange (written w (withTask s p t))
 keep-moved s p t w r h tr ok = keep-written w (withTask s p t) (keep-task s p t r h tr) (write-ok w ok)
   where
     write-ok : (w : Write) → WriteOk s w → WriteOk (withTask s p t) w
@@ -345,10 +332,6 @@ more-tallied n p l r h room =
     at q k (yes e) (no past) = rw (set-out l p (getD l p 0 + 1) (omega arith)) (r .each q k)
     at q k (no ne) there = rw (getD-set-other l p q (getD l p 0 + 1) 0 ne) (r .each q k)
 
--- the range of a task speaks of no tally
-re-tallies : (s : State) (q : ℕ) (t : Task) (x y : List ℕ) → TaskRange s q t → TaskRange (withWaits (withMoves s x) y) q t
-re-tallies s q t x y r = search
-
 keep-tallies : (s : State) (x y : List ℕ) → InRange s → Tallies (s .n) x → Tallies (s .n) y → InRange (withWaits (withMoves s x) y)
 keep-tallies s x y r mx wy =
     record {
@@ -359,7 +342,7 @@ keep-tallies s x y r mx wy =
       arrivals = r .arrivals;
       sense = r .sense;
       parents = r .parents;
-      tasks = λ q l. re-tallies s q (taskAt s q) x y (r .tasks q l);
+      tasks = r .tasks;
       rest = r .rest;
       moves = mx;
       waits = wy;

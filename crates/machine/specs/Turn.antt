@@ -4,7 +4,6 @@ use Prim.Native.Nat.{ℕ}
 use lib.Dec.{eqb, ltb}
 use Rattle.bitset.specs.Choice.{pick}
 use Rattle.lines.specs.declared.Task.{Task}
-use Rattle.lines.specs.declared.Shared.{Shared}
 use Rattle.lines.specs.declared.Effect.{Effect}
 use Rattle.lines.specs.declared.Act.{Act}
 use Rattle.lines.specs.declared.Act.the-variants.{Moves, Waits, Refuses}
@@ -20,12 +19,8 @@ use Rattle.machine.specs.declared.Outcome.the-variants.{Made, Refused}
 use Rattle.machine.specs.declared.Turned.{Turned}
 use Rattle.machine.specs.Setters.{taskAt, movesAt, waitsAt, withTask, withArrivals, withSense}
 use Rattle.machine.specs.Tally.{maxTally, moveTallied, waitTallied}
-use Rattle.machine.specs.Range.{tableOf, checkState}
+use Rattle.machine.specs.Range.{sharedOf, tableOf, checkState}
 use Rattle.machine.specs.Least.{closedBy}
-
--- what a line may read besides tasks and parents
-abbrev pub sharedOf : State → Shared
-sharedOf s = record { kind = s .kind; n = s .n; modulus = s .modulus; arrivals = s .arrivals; sense = s .sense }
 
 -- "Which rule applies is decided by the kind and the line number." What the line of the task t, which is p, does:
 abbrev pub effectBy : State → ℕ → Task → Effect

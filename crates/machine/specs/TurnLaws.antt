@@ -36,9 +36,9 @@ use Rattle.machine.specs.declared.Outcome.the-variants.{Made, Refused}
 use Rattle.machine.specs.declared.Turned.{Turned}
 use Rattle.machine.specs.Setters.{taskAt, movesAt, waitsAt, withTask, withTasks, withArrivals, withSense, withMoves, withWaits}
 use Rattle.machine.specs.Tally.{maxTally, tallied, moveTallied, waitTallied}
-use Rattle.machine.specs.Range.{tableOf, checkState, Valid}
+use Rattle.machine.specs.Range.{sharedOf, tableOf, checkState, Valid}
 use Rattle.machine.specs.Least.{closedBy}
-use Rattle.machine.specs.Turn.{sharedOf, effectOf, outcomeOf, written, movedTo, answerOf, applied, stepOf, refusedTurn, turnOf, moveNumber, waitNumber, reasonNumber}
+use Rattle.machine.specs.Turn.{effectOf, outcomeOf, written, movedTo, answerOf, applied, stepOf, refusedTurn, turnOf, moveNumber, waitNumber, reasonNumber}
 
 -- ---- by cases
 

@@ -2,70 +2,22 @@
 use crate::Fresh;
 use crate::Setup;
 use crate::State;
-use crate::range;
 use lines::Task;
-use parents::Checked;
+use setup::kinds;
+use setup::reasons;
+use setup::tables;
 ghost use mathlib.Core.Path.{_≡_};
 ghost use Prim.Native.Nat.{_≤_};
 ghost use lib.ListN.{length, replicate};
 ghost use Rattle.lines.specs.Setters.{zeroTask};
+ghost use Rattle.setup.specs.Tables.{startOf, workOf};
 ghost use Rattle.machine.specs.Fresh as defs;
-
-// 0, or the reason that refuses the table of parents: 5 or 6.
-fn parents_reason(kind: usize, n: usize, parents: &[u8]) -> u8
-    ensures { λ r. ⌜ r ≡ defs.parentsReason kind n (now (parents .entry)) ⌝ }
-{
-    if kind != 3 {
-        return if parents.len() == 0 { 0 } else { 5 };
-    }
-    match parents::check(parents, n) {
-        Checked::Accepted => 0,
-        Checked::WrongLength => 5,
-        Checked::NotLower => 6,
-    }
-}
-
-// 0, or the reason that refuses the table of starts: 12. Only kind 0 takes one.
-fn starts_reason(kind: usize, n: usize, starts: &[u8]) -> u8
-    ensures { λ r. ⌜ r ≡ defs.startsReason kind n (now (starts .entry)) ⌝ }
-{
-    let whole = (kind == 0) & (starts.len() == n) & range::all_below(n, starts);
-    if (starts.len() == 0) | whole { 0 } else { 12 }
-}
-
-// Whether every entry of a table is a work length. Of the bytes 0 alone is none.
-fn all_work(table: &[u8]) -> bool
-    ensures { λ r. ⌜ r ≡ defs.allWork (now (table .entry)) ⌝ }
-{
-    let mut ok = true;
-    let mut i = 0;
-    while i < table.len() {
-        ok = ok & (table[i] != 0);
-        i += 1;
-    }
-    ok
-}
-
-// 0, or the reason that refuses the table of work lengths: 15.
-fn works_reason(n: usize, works: &[u8]) -> u8
-    ensures { λ r. ⌜ r ≡ defs.worksReason n (now (works .entry)) ⌝ }
-{
-    let whole = (works.len() == n) & all_work(works);
-    if (works.len() == 0) | whole { 0 } else { 15 }
-}
-
-// The first of two reasons that applies; a reason that doesn't is 0.
-fn first_reason(a: u8, b: u8) -> u8
-    ensures { λ r. ⌜ r ≡ defs.firstReason a b ⌝ }
-{
-    if a == 0 { b } else { a }
-}
 
 // The shared sense: 1 for the kinds that have one.
 fn fresh_sense(kind: usize) -> u8
     ensures { λ r. ⌜ r ≡ defs.freshSense kind ⌝ }
 {
-    if range::has_sense(kind) { 1 } else { 0 }
+    if kinds::has_sense(kind) { 1 } else { 0 }
 }
 
 // The arrivals: the kind that counts down begins with n.
@@ -118,20 +70,6 @@ fn zero_table() -> [u8; 64]
     [0; 64]
 }
 
-// The start of a task; 0 past the table.
-fn start_of(starts: &[u8], q: usize) -> u8
-    ensures { λ r. ⌜ r ≡ defs.startOf (now (starts .entry)) q ⌝ }
-{
-    if q < starts.len() { starts[q] } else { 0 }
-}
-
-// The work length of a task; 1 past the table.
-fn work_of(works: &[u8], q: usize) -> u8
-    ensures { λ r. ⌜ r ≡ defs.workOf (now (works .entry)) q ⌝ }
-{
-    if q < works.len() { works[q] } else { 1 }
-}
-
 // A fresh task: at line 11, with its start, all moves of its work left and its own sense, all else 0.
 fn fresh_task(start: u8, work: u8, own: u8) -> Task
     ensures { λ r. ⌜ r ≡ defs.taskWith start work own ⌝ }
@@ -148,12 +86,12 @@ fn fresh_task(start: u8, work: u8, own: u8) -> Task
 // The tasks of a fresh state: n fresh ones, and all zero from n on.
 fn fresh_tasks(n: usize, starts: &[u8], works: &[u8], own: u8) -> [Task; 64]
     requires { ⌜ n ≤ 64 ⌝ }
-    ensures { λ r. ⌜ r ≡ defs.freshTasks n (λ q. defs.taskWith (defs.startOf (now (starts .entry)) q) (defs.workOf (now (works .entry)) q) own) ⌝ }
+    ensures { λ r. ⌜ r ≡ defs.freshTasks n (λ q. defs.taskWith (startOf (now (starts .entry)) q) (workOf (now (works .entry)) q) own) ⌝ }
 {
     let mut all = zero_tasks();
     let mut q = 0;
     while q < n {
-        all[q] = fresh_task(start_of(starts, q), work_of(works, q), own);
+        all[q] = fresh_task(tables::start_of(starts, q), tables::work_of(works, q), own);
         q += 1;
     }
     all
@@ -199,19 +137,13 @@ impl Setup {
     fn reason(self, parents: &[u8], starts: &[u8], works: &[u8]) -> u8
         ensures { λ r. ⌜ r ≡ defs.freshReason (defs.inputsOf self (now (parents .entry)) (now (starts .entry)) (now (works .entry))) ⌝ }
     {
-        if !range::is_kind(self.kind) {
-            return 2;
+        let of_setup = reasons::setup_reason(self.kind, self.n, self.modulus, parents);
+        if of_setup != 0 {
+            return of_setup;
         }
-        if !bitset::is_count(self.n) {
-            return 3;
-        }
-        if !range::modulus_ok(self.kind, self.modulus) {
-            return 4;
-        }
-        let of_parents = parents_reason(self.kind, self.n, parents);
-        let of_starts = starts_reason(self.kind, self.n, starts);
-        let of_works = works_reason(self.n, works);
-        first_reason(of_parents, first_reason(of_starts, of_works))
+        let of_starts = tables::starts_reason(self.kind, self.n, starts);
+        let of_works = tables::works_reason(self.n, works);
+        reasons::first_reason(of_starts, of_works)
     }
 
     // The fresh state; all zero where it is refused. A table of length 0 gives every task the start 0, or the work length 1.

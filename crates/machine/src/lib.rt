@@ -1,6 +1,7 @@
 // The step machine of the five barriers: a fresh state, a turn, and who is ready. It gathers what a line reads, stores what it writes, and
-// checks ranges; what a line does is the crate `lines`. What each call answers is defined in specs/, and the modules here follow its files:
-// `initial` (Fresh), `range`, `rounds` (Least), `turn`, `able` (Ready). Every public function is total, and its contract is an equation with its definition.
+// checks ranges; what a line does is the crate `lines`, and what refuses a setup and a task's range are the crate `setup`. What each call answers
+// is defined in specs/, and the modules here follow its files: `initial` (Fresh), `range`, `rounds` (Least), `turn`, `able` (Ready). Every public
+// function is total, and its contract is an equation with its definition.
 mod able;
 mod initial;
 mod range;

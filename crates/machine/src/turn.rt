@@ -6,7 +6,6 @@ use crate::State;
 use crate::Turned;
 use lines::Act;
 use lines::Effect;
-use lines::Shared;
 use lines::rule;
 ghost use mathlib.Core.Path.{_≡_};
 ghost use Prim.Native.Nat.{_<_};
@@ -86,14 +85,7 @@ impl State {
         let seen = self.tasks[looked];
         let parents = self.parents;
         let n = self.n as usize;
-        let shared = Shared {
-            kind: self.kind,
-            n: self.n,
-            modulus: self.modulus,
-            arrivals: self.arrivals,
-            sense: self.sense,
-        };
-        rule::effect_of(shared, &parents[..n], task, own, seen)
+        rule::effect_of(self.shared(), &parents[..n], task, own, seen)
     }
 
     // One line of a known task, in a state in range. All that the effect has is stored, whether it moves or waits: where it waits, that is

@@ -28,7 +28,7 @@ unfoldable pub shapeTable : ℕ → ℕ → List ℕ
 shapeTable shape zero = []
 shapeTable shape (suc q) = shapeTable shape q ++ shapeParent shape q ∷ []
 
--- 2: "The kind, or the shape, isn't 0 to 3". 02, P7: "shapes keep 0 to 3"; the kinds' limit is another (`isKind` in machine).
+-- 2: "The kind, or the shape, isn't 0 to 3". 02, P7: "shapes keep 0 to 3"; the kinds' limit is another (`isKind` in setup).
 abbrev pub isShape : ℕ → Bool
 isShape shape = leb shape 3
 

@@ -5,11 +5,12 @@ use Prim.Native.Nat.{ℕ, suc, _%_}
 use lib.Dec.{eqb, leb}
 use lib.ListN.{length}
 use Rattle.bitset.specs.Choice.{pick}
+use Rattle.setup.specs.Reasons.{firstReason}
 use Rattle.machine.specs.declared.State.{State}
 use Rattle.machine.specs.declared.Outcome.{Outcome}
 use Rattle.machine.specs.declared.Outcome.the-variants.{Made, Refused}
 use Rattle.machine.specs.Setters.{taskAt}
-use Rattle.machine.specs.Fresh.{Inputs, firstReason, freshReason, freshState, zeroState}
+use Rattle.machine.specs.Fresh.{Inputs, freshReason, freshState, zeroState}
 use Rattle.machine.specs.Turn.{turnOf, moveNumber}
 use Rattle.schedule.specs.Passes.{maxTurns}
 use Rattle.playback.specs.declared.Verdict.{Verdict}

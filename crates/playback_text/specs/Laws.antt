@@ -1,6 +1,6 @@
 -- Laws of play-back from a setup text: what its numbers say, that their bytes say the same, and that what is printed fits.
 use mathlib.Core.Path.{_≡_, refl, sym, ap, _∙_}
-use mathlib.Core.Bool.{true, false, and-eq-true-iff, and-false}
+use mathlib.Core.Bool.{true, false, and-false}
 use mathlib.Core.List.{List, [], _∷_}
 use mathlib.Core.Option.{Option, none, some}
 use Prim.Native.Nat.{ℕ, _+_, _*_, _≤_, _<_}
@@ -8,16 +8,18 @@ use native.Mathlib.Decide.{ℕ-discrete, decLe}
 use native.Mathlib.Omega.{arith}
 use lib.Dec.{leb}
 use lib.ListN.{length, drop, getD, length-append}
-use borrow.Author.Tests.{le-leb, lt-leb}
+use borrow.Author.Tests.{le-leb, lt-leb, le-ltb}
 use Rattle.text.specs.Numbers.{low}
 use Rattle.text.specs.NumbersLaws.{low-alike}
 use Rattle.text.specs.Decimal.{refusedWord}
 use Rattle.text.specs.DecimalLaws.{decimal-most}
+use Rattle.setup.specs.Tables.{isWork}
+use Rattle.setup.specs.TablesLaws.{within}
 use Rattle.machine.specs.declared.State.{State}
 use Rattle.machine.specs.declared.Outcome.{Outcome}
 use Rattle.machine.specs.declared.Outcome.the-variants as outcome
 use Rattle.machine.specs.Setters.{taskAt}
-use Rattle.machine.specs.Fresh.{Inputs, isWork, freshReason}
+use Rattle.machine.specs.Fresh.{Inputs, freshReason}
 use Rattle.machine.specs.FreshLaws.{withEntries, entries-reason, entries-same, withWorks, works-reason, works-same}
 use Rattle.machine.specs.Turn.{turnOf, moveNumber}
 use Rattle.playback.specs.declared.Verdict.{Verdict}
@@ -71,10 +73,10 @@ length-alike x = go (decLe x 255)
   where
     go : Dec (x ≤ 255) → isWork (lengthByte x) ≡ isWork x
     go (yes l) = let same : lengthByte x ≡ x = rw (le-leb x 255 l) in ap isWork same
-    go (no l) = let out : leb x 255 ≡ false = lt-leb x 255 (omega arith) in rw out (sym (and-false (leb 1 x)))
+    go (no l) = let out : leb x 255 ≡ false = lt-leb x 255 (omega arith) in rw (out, le-ltb x 256 (omega arith)) (sym (and-false (leb 1 x)))
 
 length-same : (x : ℕ) → isWork x ≡ true → lengthByte x ≡ x
-length-same x e = rw (and-eq-true-iff (leb 1 x) (leb x 255) .0 e .1)
+length-same x e = rw (le-leb x 255 (omega (arith, within 1 256 x e .1)))
 
 -- the bytes of the tables are played as the tables are
 pub byte-play : (i : Inputs) (trace : List ℕ) → playOf (withWorks lengthByte (withEntries low i)) trace ≡ playOf i trace

@@ -14,7 +14,7 @@ use Rattle.lines.specs.LineLaws.{by-ring}
 use Rattle.machine.specs.declared.State.{State}
 use Rattle.machine.specs.Setters.{taskAt}
 use Rattle.machine.specs.TurnLaws.{effect-2}
-use Rattle.machine.specs.RangeLaws.{TaskRange, range}
+use Rattle.machine.specs.RangeLaws.{TaskIn, range}
 use Rattle.machine.specs.Least.{least}
 use Rattle.machine.specs.LeastLaws.{least-attained}
 use Rattle.barrier.specs.Barrier.{Able, Holds}
@@ -38,7 +38,7 @@ moves s p i h at-12 at-13 at-14 = (
     Acts : Effect → Type 0
     Acts e = e .act ≡ Moves
 
-    mine : TaskRange s p t
+    mine : TaskIn s p t
     mine = range s (i .valid) .tasks p h
 
     last : t .line ≤ 15

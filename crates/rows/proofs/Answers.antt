@@ -11,8 +11,8 @@ use borrow.Author.Tests.{ne-eqb, eqb-false}
 use Rattle.bitset.specs.Choice.{pick}
 use Rattle.bitset.specs.ChoiceLaws.{by-test}
 use Rattle.schedule.specs.Passes.{maxTurns, allTasks}
+use Rattle.setup.specs.Reasons.{firstReason}
 use Rattle.machine.specs.declared.State.{State}
-use Rattle.machine.specs.Fresh.{firstReason}
 use Rattle.machine.specs.Range.{checkState}
 use Rattle.runner.specs.declared.Ran.{Ran}
 use Rattle.runner.specs.Trace.{traceOf}

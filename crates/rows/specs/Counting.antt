@@ -24,9 +24,9 @@ use Rattle.machine.specs.declared.Move.{Move}
 use Rattle.machine.specs.declared.Move.the-variants.{Moved, Waited}
 use Rattle.machine.specs.declared.Outcome.the-variants.{Made}
 use Rattle.machine.specs.Setters.{taskAt}
-use Rattle.machine.specs.Range.{tableOf}
+use Rattle.machine.specs.Range.{sharedOf, tableOf}
 use Rattle.machine.specs.Least.{countOf}
-use Rattle.machine.specs.Turn.{sharedOf, effectOf, turnOf, moveNumber}
+use Rattle.machine.specs.Turn.{effectOf, turnOf, moveNumber}
 use Rattle.machine.specs.TurnLaws.{effect-rule, actOf, turn-makes}
 use Rattle.machine.specs.RoundLaws.{own-made}
 

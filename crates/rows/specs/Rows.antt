@@ -5,11 +5,11 @@ use Prim.Native.Nat.{ℕ, zero, suc, _*_, min}
 use lib.Dec.{eqb, leb}
 use lib.ListN.{length, getD, take, drop}
 use Rattle.bitset.specs.Choice.{pick}
+use Rattle.setup.specs.Reasons.{firstReason}
 use Rattle.machine.specs.declared.State.{State}
 use Rattle.machine.specs.declared.Outcome.{Outcome}
 use Rattle.machine.specs.declared.Outcome.the-variants as outcome
 use Rattle.machine.specs.Setters.{taskAt}
-use Rattle.machine.specs.Fresh.{firstReason}
 use Rattle.machine.specs.Least.{countOf, least}
 use Rattle.machine.specs.Turn.{turnOf, moveNumber, closedNumber}
 use Rattle.runner.specs.declared.Ending.{Ending}

@@ -23,13 +23,13 @@ use Rattle.machine.specs.declared.Outcome.the-variants.{Made, Refused}
 use Rattle.machine.specs.Setters.{taskAt, movesAt, waitsAt}
 use Rattle.machine.specs.Tally.{maxTally}
 use Rattle.machine.specs.TallyLaws.{moves-limit, waits-limit}
-use Rattle.machine.specs.Range.{Valid, tableOf}
+use Rattle.machine.specs.Range.{sharedOf, Valid, tableOf}
 use Rattle.machine.specs.Least.{countOf, countsOf, closedBy}
 use Rattle.machine.specs.Least as count
 use Rattle.machine.specs.LeastLaws.{least-is}
 use Rattle.machine.specs.CountLaws.{kept-or-raised}
 use Rattle.machine.specs.RoundLaws.{lent-there, closed-is, own-made, other-made}
-use Rattle.machine.specs.Turn.{sharedOf, effectOf, outcomeOf, movedTo, answerOf, turnOf, moveNumber}
+use Rattle.machine.specs.Turn.{effectOf, outcomeOf, movedTo, answerOf, turnOf, moveNumber}
 use Rattle.machine.specs.TurnLaws.{effect-rule, stored, turn-made, turn-refused, turn-constants}
 use Rattle.machine.specs.KeepLaws.{turn-valid, looked-known, place-known}
 use Rattle.machine.specs.RangeLaws.{range}

@@ -1,6 +1,6 @@
 -- The numbers of a reached state fit the types of its fields, so that the state can be kept as a list.
 use mathlib.Core.Path.{_≡_, _∙_}
-use mathlib.Core.Bool.{Bool, true, false, _&&_, _||_, and-eq-true-iff}
+use mathlib.Core.Bool.{Bool, true, false, _||_}
 use Prim.Native.Nat.{ℕ, zero, suc, _+_, _≤_, _<_}
 use native.Mathlib.Decide.{decLt}
 use native.Mathlib.Omega.{arith}
@@ -9,13 +9,15 @@ use lib.ListN.{length, getD}
 use borrow.Author.Tests.{leb-true, eqb-true}
 use Rattle.bitset.specs.Choice.{pick}
 use Rattle.bitset.specs.SetLaws.{within-lt}
+use Rattle.setup.specs.Kinds.{hasSense}
+use Rattle.setup.specs.RangeLaws.{Zeros, zeros, line-18, field-byte, modulus-byte}
 use Rattle.machine.specs.declared.State.{State}
 use Rattle.machine.specs.Setters.{taskAt, movesAt, waitsAt}
-use Rattle.machine.specs.Fresh.{Inputs, hasSense, freshReason, freshState}
+use Rattle.machine.specs.Fresh.{Inputs, freshReason, freshState}
 use Rattle.machine.specs.FreshLaws.{accepted-inputs, fresh-bytes, fresh-lengths}
 use Rattle.machine.specs.Tally.{maxTally}
 use Rattle.machine.specs.Range.{tallyOk, Valid}
-use Rattle.machine.specs.RangeLaws.{TaskRange, InRange, Zeros, zeros, range, line-18, field-byte}
+use Rattle.machine.specs.RangeLaws.{TaskIn, InRange, range}
 use Rattle.machine.specs.Turn.{turnOf}
 use Rattle.machine.specs.TurnLaws.{turn-constants, turn-work, turn-length}
 use Rattle.snapshot.specs.Snapshot.{headNumbers, mostIn}
@@ -52,17 +54,13 @@ module _ (s : State) (ok : Valid s) (b : Bytes s) where
   abbrev r : InRange s
   r = range s ok
 
-  modulus-byte : s .modulus ≤ 255
-  modulus-byte = go (eqb (s .kind) 0) (r .modulus)
-    where
-      go : (symmetric : Bool) → pick symmetric (leb 3 (s .modulus) && leb (s .modulus) 255) (eqb (s .modulus) 0) ≡ true → s .modulus ≤ 255
-      go true e = leb-true (s .modulus) 255 (and-eq-true-iff (leb 3 (s .modulus)) (leb (s .modulus) 255) .0 e .1)
-      go false e = omega (arith, eqb-true (s .modulus) 0 e)
+  modulus-small : s .modulus ≤ 255
+  modulus-small = modulus-byte (s .kind) (s .modulus) (r .modulus)
 
   head : (k : ℕ) → k < 5 → getD (headNumbers s) k 0 ≤ 255
   head zero h = omega (arith, r .kind)
   head (suc zero) h = omega (arith, r .few)
-  head (suc (suc zero)) h = modulus-byte
+  head (suc (suc zero)) h = modulus-small
   head (suc (suc (suc zero))) h = field-byte (hasSense (s .kind)) (s .n + 1) (s .arrivals) (omega (arith, r .few)) (r .arrivals)
   head (suc (suc (suc (suc zero)))) h = field-byte (hasSense (s .kind)) 2 (s .sense) (omega arith) (r .sense)
   head (suc (suc (suc (suc (suc k))))) h = absurd (omega arith)
@@ -77,14 +75,14 @@ module _ (s : State) (ok : Valid s) (b : Bytes s) where
 
   -- the numbers of a task that is there
   module _ (q : ℕ) (here : q < s .n) where
-    abbrev t : TaskRange s q (taskAt s q)
+    abbrev t : TaskIn s q (taskAt s q)
     t = r .tasks q here
 
     small : (k : ℕ) → k < 15 → q < 64 → getD (numbers s q) k 0 ≤ mostIn k
     small zero h l = omega (arith, t .line-to, line-18 (s .kind))
     small (suc zero) h l = omega (arith, t .count)
-    small (suc (suc zero)) h l = field-byte (eqb (s .kind) 0) (s .modulus) (taskAt s q .tag) (omega (arith, modulus-byte)) (t .tag)
-    small (suc (suc (suc zero))) h l = field-byte (eqb (s .kind) 0) (s .modulus) (taskAt s q .old) (omega (arith, modulus-byte)) (t .old)
+    small (suc (suc zero)) h l = field-byte (eqb (s .kind) 0) (s .modulus) (taskAt s q .tag) (omega (arith, modulus-small)) (t .tag)
+    small (suc (suc (suc zero))) h l = field-byte (eqb (s .kind) 0) (s .modulus) (taskAt s q .old) (omega (arith, modulus-small)) (t .old)
     small (suc (suc (suc (suc zero)))) h l = omega (arith, within-lt 64 (taskAt s q .list) _ (t .list))
     small (suc (suc (suc (suc (suc zero))))) h l = field-byte (eqb (s .kind) 0 || eqb (s .kind) 3) (s .n) (taskAt s q .looked) (omega (arith, r .few)) (t .looked)
     small (suc (suc (suc (suc (suc (suc zero)))))) h l = field-byte (eqb (s .kind) 1) 2 (taskAt s q .aim) (omega arith) (t .aim)

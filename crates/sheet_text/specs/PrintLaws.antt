@@ -14,11 +14,12 @@ use Rattle.text.specs.Decimal.{decimal, spaced, refusedWord}
 use Rattle.text.specs.DecimalLaws.{decimal-most, decimal-length}
 use Rattle.schedule.specs.Passes.{passesOf}
 use Rattle.schedule.specs.PassesLaws.{passes-few}
+use Rattle.setup.specs.RangeLaws.{line-18}
 use Rattle.machine.specs.declared.State.{State}
 use Rattle.machine.specs.Setters.{taskAt}
 use Rattle.machine.specs.Range.{Valid}
 use Rattle.machine.specs.Least.{least}
-use Rattle.machine.specs.RangeLaws.{line-18, InRange, range}
+use Rattle.machine.specs.RangeLaws.{InRange, range}
 use Rattle.machine.specs.KeepLaws.{turn-valid}
 use Rattle.machine.specs.LeastLaws.{least-le}
 use Rattle.runner.specs.Trace.{traceOf}

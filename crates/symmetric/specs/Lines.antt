@@ -14,9 +14,10 @@ use Rattle.lines.specs.Setters.{withLine, withTag, withOld, withList, withLooke
 use Rattle.lines.specs.Common.{moves, raised}
 use Rattle.lines.specs.Symmetric.{nextTag}
 use Rattle.lines.specs.LineLaws.{by-symmetric}
+use Rattle.setup.specs.Range.{listRoom}
 use Rattle.machine.specs.declared.State.{State}
 use Rattle.machine.specs.Setters.{taskAt}
-use Rattle.machine.specs.Range.{listRoom, Valid}
+use Rattle.machine.specs.Range.{sharedOf, tableOf, Valid}
 use Rattle.machine.specs.Turn.{effectOf}
 use Rattle.machine.specs.TurnLaws.{effect-0}
 use Rattle.machine.specs.RangeLaws.{range}
@@ -45,4 +46,4 @@ by-line P s p ok kind able l11 l12 l13-none l13-some l14 =
 
     -- whatever the start, the first task of a list is on it
     taken : t .list ≢ 0 → bit (t .list) (firstOf (t .list) (t .start)) ≡ 1
-    taken = first-member (t .list) (t .start) (within-lt 64 (t .list) (listRoom s p) (range s ok .tasks p (able .0) .list)) .1
+    taken = first-member (t .list) (t .start) (within-lt 64 (t .list) (listRoom (sharedOf s) (tableOf s) p) (range s ok .tasks p (able .0) .list)) .1

@@ -14,7 +14,7 @@ use Rattle.machine.specs.declared.State.{State}
 use Rattle.machine.specs.Setters.{taskAt}
 use Rattle.machine.specs.Turn.{effectOf}
 use Rattle.machine.specs.TurnLaws.{effect-0}
-use Rattle.machine.specs.RangeLaws.{TaskRange, range}
+use Rattle.machine.specs.RangeLaws.{TaskIn, range}
 use Rattle.machine.specs.KeepLaws.{looked-known}
 use Rattle.machine.specs.Least.{least}
 use Rattle.machine.specs.LeastLaws.{least-le, least-attained}
@@ -39,7 +39,7 @@ least-moves s p i h lowest low =
     Acts : Effect → Type 0
     Acts e = e .act ≡ Moves
 
-    mine : TaskRange s p t
+    mine : TaskIn s p t
     mine = range s (i .valid) .tasks p h
 
     last : t .line ≤ 14

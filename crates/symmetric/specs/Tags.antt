@@ -6,9 +6,10 @@ use native.Mathlib.Nat.{mod-add-mod}
 use native.Mathlib.Decide.{ℕ-discrete}
 use native.Mathlib.Omega.{arith}
 use lib.Dec.{eqb}
+use Rattle.setup.specs.RangeLaws.{below, modulus-3}
 use Rattle.machine.specs.declared.State.{State}
 use Rattle.machine.specs.Setters.{taskAt}
-use Rattle.machine.specs.RangeLaws.{InRange, range, below, modulus-3}
+use Rattle.machine.specs.RangeLaws.{InRange, range}
 use Rattle.symmetric.specs.Modulo.{next-injective, next-other, next-next-other}
 use Rattle.barrier.specs.Barrier.{Holds}
 use Rattle.symmetric.specs.Invariant.{Inv}

@@ -18,7 +18,7 @@ use Rattle.machine.specs.declared.State.{State}
 use Rattle.machine.specs.Setters.{taskAt}
 use Rattle.machine.specs.Range.{tableOf}
 use Rattle.machine.specs.TurnLaws.{effect-3}
-use Rattle.machine.specs.RangeLaws.{TaskRange, range}
+use Rattle.machine.specs.RangeLaws.{TaskIn, range}
 use Rattle.machine.specs.Least.{least}
 use Rattle.machine.specs.LeastLaws.{least-attained}
 use Rattle.barrier.specs.Barrier.{Able, Holds}
@@ -44,7 +44,7 @@ module _ (s : State) (i : Holds 3 Inv s) (below : i .inv .round < maxCount) wher
       Acts : Effect → Type 0
       Acts e = e .act ≡ Moves
 
-      mine : TaskRange s p t
+      mine : TaskIn s p t
       mine = range s (i .valid) .tasks p known
 
       last : t .line ≤ 18

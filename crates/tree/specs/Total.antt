@@ -9,9 +9,10 @@ use lib.Count.{ones-ones}
 use borrow.Author.Tests.{le-ltb}
 use Rattle.bitset.specs.Set.{sizeOf}
 use Rattle.bitset.specs.SetLaws.{with-size}
+use Rattle.bitset.specs.Sum.{sum}
+use Rattle.bitset.specs.SumLaws.{sum-same, sum-add, sum-mul, sum-const, sum-put}
 use Rattle.parents.specs.Parents.{parentOf, IsTree, childrenBelow}
 use Rattle.parents.specs.ParentsLaws.{children-bit, children-none, children-more, children-same}
-use Rattle.barrier.specs.Sum.{sum, sum-same, sum-add, sum-mul, sum-const, sum-put}
 use Rattle.tree.specs.Round.{children, L}
 
 -- the number of children of q among the tasks below m

@@ -7,10 +7,11 @@ use lib.ListN.{length}
 use Rattle.bitset.specs.Choice.{pick}
 use Rattle.parents.specs.Shapes.{shapeOf, tableAfter}
 use Rattle.schedule.specs.Passes.{passesAnswer, passesReason, passesCount, passesPlace, pairsAfter}
+use Rattle.setup.specs.Reasons.{firstReason}
 use Rattle.machine.specs.declared.Turned.{Turned}
 use Rattle.machine.specs.declared.Ready.{Ready}
 use Rattle.machine.specs.declared.Ready.the-variants as ready
-use Rattle.machine.specs.Fresh.{Inputs, inputsOf, firstReason, freshOf}
+use Rattle.machine.specs.Fresh.{Inputs, inputsOf, freshOf}
 use Rattle.machine.specs.Turn.{refusedTurn, turnOf, reasonNumber}
 use Rattle.machine.specs.Ready.{readyOf, readyReason, readyNumber}
 use Rattle.runner.specs.declared.Ran.{Ran}

@@ -1,21 +1,13 @@
 -- `machine::Setup::fresh` meets its contract, refused and accepted.
 use borrow.Author.Needs.{needs}
-use mathlib.Core.Path.{_≡_, sym, _∙_}
-use mathlib.Core.Bool.{Bool, true, false, _&&_, and-eq-true-iff}
-use Prim.Native.Nat.{ℕ, _≤_}
+use mathlib.Core.Path.{sym, _∙_}
 use native.Mathlib.Omega.{arith}
-use lib.Dec.{eqb, leb}
-use borrow.Author.Tests.{ne-eqb, eqb-true, leb-true}
-use Rattle.bitset.specs.Choice.{pick}
+use borrow.Author.Tests.{ne-eqb}
+use Rattle.setup.specs.RangeLaws.{modulus-byte}
 use Rattle.machine.specs.Fresh.{Inputs, inputsOf, freshOf}
 use Rattle.machine.specs.FreshLaws.{Accepted, accepted-inputs, parents-few}
 use Rattle.machine.proofs.Setup.fresh.Statement.{statement}
 use Rattle.machine.proofs.Setup.fresh.Tie as tie
-
--- a modulus that is accepted fits the state's field
-modulus-fits : (b : Bool) (r : ℕ) → pick b (leb 3 r && leb r 255) (eqb r 0) ≡ true → r ≤ 255
-modulus-fits true r e = leb-true r 255 (and-eq-true-iff (leb 3 r) (leb r 255) .0 e .1)
-modulus-fits false r e = omega (arith, eqb-true r 0 e)
 
 -- ---- a call that is accepted, and what fits its state's fields
 
@@ -54,7 +46,7 @@ cast-t12 c = omega (arith, accepts (filled (c .before .before)) .kind)
 cast-t13 : tie.Need-cast-t13
 cast-t13 c =
     let e = filled (c .before .before .before) in
-    omega (arith, modulus-fits (eqb (inputs e .kind) 0) (inputs e .modulus) (accepts e .modulus))
+    omega (arith, modulus-byte (inputs e .kind) (inputs e .modulus) (accepts e .modulus))
 
 returns-2 : tie.Need-returns-2
 unfolding freshOf

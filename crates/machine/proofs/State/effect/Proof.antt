@@ -33,17 +33,17 @@ element-copy-out-seen : tie.Need-element-copy-out-seen
 element-copy-out-seen c = seen-there (c .before .before)
 
 array-share-prefix-parents : tie.Need-array-share-prefix-parents
-array-share-prefix-parents c = table-there (start c)
+array-share-prefix-parents c = table-there (start (c .before))
 
 slice-aggregate-effect-of : tie.Need-slice-aggregate-effect-of
-slice-aggregate-effect-of c = sym (length-take-le _ _ (table-there (start (c .before))))
+slice-aggregate-effect-of c = sym (length-take-le _ _ (table-there (start (c .before .before))))
 
 returns : tie.Need-returns
 unfolding effectOf
-returns c = c .effect-of .ensures
+returns c = rw (c .before .before .shared .ensures) at (c .effect-of .ensures)
 
 pub effect-spec : {M : Type 1} → statement M
 effect-spec =
     tie.close
     (tie.spec (λ c. search needs) element-copy-out-own (λ c. search needs) (λ c. search needs) element-copy-out-seen
-    (λ c. search needs) array-share-prefix-parents slice-aggregate-effect-of (λ c κs. search needs) returns)
+    (λ c. search needs) (λ c κs. search needs) array-share-prefix-parents slice-aggregate-effect-of (λ c κs. search needs) returns)

@@ -11,18 +11,12 @@ use Rattle.machine.proofs.State.in_range.Tie as tie
 returns : tie.Need-returns
 unfolding stateOk
 returns c =
-    let m = c .before .before .before .before in
-    let n = m .before .before in
-    let shares = n .before .before in
-    let start = shares .before .before in
+    let w = c .before .before in
+    let start = w .before .before in
     let s = start .args .self in
     rw (
-      n .before .is-kind .ensures,
-      n .is-count .ensures,
-      ← shares .has-sense .ensures,
-      m .modulus-ok .ensures,
-      c .before .before .before .field-ok .ensures,
-      c .before .before .field-ok2 .ensures,
+      w .shared-ok .ensures,
+      w .before .shared .ensures,
       c .before .parents-ok .ensures,
       c .tasks-ok .ensures,
       eq-eqb (length (s .moves)) 64 (moves-64 s _ (start .good .0)),
@@ -33,6 +27,4 @@ returns c =
 pub in-range-spec : {M : Type 1} → statement M
 in-range-spec =
     tie.close
-    (tie.spec (λ c. search needs) (λ c. search needs) (λ c κs. search needs) (λ c. search needs) (λ c κs. search needs) (λ c κs. search needs) (λ c. search needs)
-    (λ c. search needs) (λ c κs. search needs) (λ c. search needs) (λ c κs. search needs) (λ c κs. search needs)
-    (λ c κs. search needs) (λ c κs. search needs) returns)
+    (tie.spec (λ c κs. search needs) (λ c κs. search needs) (λ c κs. search needs) (λ c κs. search needs) returns)

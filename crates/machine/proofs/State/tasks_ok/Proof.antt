@@ -5,9 +5,10 @@ use mathlib.Core.Bool.{Bool, _&&_}
 use Prim.Native.Nat.{ℕ, _+_, _-_, _≤_}
 use native.Mathlib.Numerals.{add-one}
 use native.Mathlib.Omega.{arith}
+use Rattle.setup.specs.Range.{placeOk}
 use Rattle.machine.specs.declared.State.{State}
 use Rattle.machine.specs.Setters.{taskAt, movesAt, waitsAt}
-use Rattle.machine.specs.Range.{tallyOk, placeOk, tasksOk}
+use Rattle.machine.specs.Range.{sharedOf, tableOf, tallyOk, tasksOk}
 use Rattle.machine.proofs.State.tasks_ok.Statement.{statement}
 use Rattle.machine.proofs.State.tasks_ok.Tie as tie
 
@@ -19,7 +20,7 @@ abbrev μ-loop : tie.MeasureT-loop
 
 -- one task more
 one-more : (s : State) (q : ℕ) (ok place moves waits : Bool) → ok ≡ tasksOk s q
-    → place ≡ placeOk s q (taskAt s q)
+    → place ≡ placeOk (sharedOf s) (tableOf s) q (taskAt s q)
     → moves ≡ tallyOk (s .n) q (movesAt s q) → waits ≡ tallyOk (s .n) q (waitsAt s q)
     → (ok && (place && (moves && waits))) ≡ tasksOk s (q + 1)
 unfolding tasksOk

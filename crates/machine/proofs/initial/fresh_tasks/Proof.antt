@@ -8,7 +8,8 @@ use Rattle.bitset.specs.Table.{table}
 use Rattle.bitset.specs.TableLaws.{length-table, table-none, table-more}
 use Rattle.lines.specs.declared.Task.{Task}
 use Rattle.lines.specs.Setters.{zeroTask}
-use Rattle.machine.specs.Fresh.{startOf, workOf, taskWith, freshTasks}
+use Rattle.setup.specs.Tables.{startOf, workOf}
+use Rattle.machine.specs.Fresh.{taskWith, freshTasks}
 use Rattle.machine.proofs.Arrays.{store-next}
 use Rattle.machine.proofs.initial.fresh_tasks.Statement.{statement}
 use Rattle.machine.proofs.initial.fresh_tasks.Tie as tie
