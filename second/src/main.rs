@@ -6,6 +6,7 @@ mod cases;
 mod commands;
 mod files;
 mod findings;
+mod lines;
 mod machine;
 mod parents;
 mod passes;
@@ -17,7 +18,6 @@ mod recorder;
 mod refusal;
 mod requests;
 mod schedules;
-mod serve;
 mod setup;
 mod shapes;
 mod sheet;
@@ -35,6 +35,7 @@ use std::env;
 use std::io::{self, BufWriter, Write};
 use std::path::Path;
 use std::process::ExitCode;
+use std::time::Duration;
 
 const USAGE: &str = "\
 usage:
@@ -56,6 +57,7 @@ usage:
   second traces                   print the named traces of kind 0 that have no start table
   second random SEED COUNT        print so many random requests
   second soak MINUTES COMMAND..   hold random requests against another program
+  second seek MINUTES COMMAND..   the same, but a difference isn't shrunk
 ";
 
 fn main() -> ExitCode {
@@ -89,7 +91,7 @@ fn command(arguments: &[&str]) -> Result<io::Result<bool>, &'static str> {
         ["plays", folder] => Ok(plays(Path::new(folder)).map(|()| true)),
         ["calls", folder] => Ok(calls(Path::new(folder)).map(|()| true)),
         ["compare", folder, answered] => Ok(compare(Path::new(folder), Path::new(answered))),
-        ["traces"] => Ok(commands::print(&traces::table()).map(|()| true)),
+        ["traces"] => Ok(commands::print(Ok(traces::table())).map(|()| true)),
         ["random", seed, count] => {
             let numbers = "SEED and COUNT are whole numbers";
             let seed = seed.parse().map_err(|_| numbers)?;
@@ -97,12 +99,17 @@ fn command(arguments: &[&str]) -> Result<io::Result<bool>, &'static str> {
             Ok(random(seed, count).map(|()| true))
         }
         ["soak", minutes, other @ ..] if !other.is_empty() => {
-            let time = soak::time(minutes);
-            let time = time.ok_or("MINUTES is a number above 0, such as 10 or 0.5")?;
-            Ok(soak::soak(time, other))
+            Ok(soak::soak(soak_time(minutes)?, other))
+        }
+        ["seek", minutes, other @ ..] if !other.is_empty() => {
+            Ok(soak::seek(soak_time(minutes)?, other))
         }
         _ => Err("no such command"),
     }
+}
+
+fn soak_time(minutes: &str) -> Result<Duration, &'static str> {
+    soak::time(minutes).ok_or("MINUTES is a number above 0, such as 10 or 0.5")
 }
 
 fn write(folder: &Path) -> io::Result<()> {

@@ -1,16 +1,10 @@
 //! The replay: reads request lines, keeps one state, and gives one answer line for each.
 
+use super::lines::{append, append_bytes, append_words, bytes, numbers};
 use super::machine::{fresh, ready, run, turn, Ending, Outcome, Report, State, Tables, Task};
 use super::passes::{first_pass, passes};
 use super::playback::play;
 use super::shapes::shape;
-use std::fmt::{Display, Write};
-
-/// The most bytes of a request line, its line feed left out.
-pub const MAX_LINE: usize = 1_048_576;
-
-/// The most digits of a number.
-const MAX_DIGITS: usize = 20;
 
 /// The most entries of each part of a request.
 pub const MAX_REQUEST_TURNS: usize = 70_000;
@@ -253,7 +247,7 @@ fn answer_passes(n: u64, length: u64, turns: &[u64]) -> Option<String> {
         Ok(number) => number.to_string(),
         Err(refusal) => refusal.to_string(),
     };
-    append(&mut line, &pairs);
+    append_words(&mut line, &pairs);
     Some(line)
 }
 
@@ -262,7 +256,7 @@ fn answer_first_pass(n: u64, place: u64, turns: &[u64]) -> Option<String> {
     let schedule = bytes(turns, MAX_REQUEST_TURNS)?;
     let pass = first_pass(n, &schedule, place);
     let mut line = pass.len().to_string();
-    append(&mut line, pass);
+    append_bytes(&mut line, pass);
     Some(line)
 }
 
@@ -273,17 +267,17 @@ fn answer_shape(number: u64, n: u64, length: u64) -> Option<String> {
         Ok(()) => "ok".to_string(),
         Err(refusal) => refusal.to_string(),
     };
-    append(&mut line, &table);
+    append_bytes(&mut line, &table);
     Some(line)
 }
 
 /// The answer line of a run.
 fn report_line(report: &Report, log: &[u8]) -> String {
     let mut line = ending(report.ending);
-    append(&mut line, &[report.turns, report.rounds]);
-    append(&mut line, &report.moves);
-    append(&mut line, &report.waits);
-    append(&mut line, log);
+    append(&mut line, &[report.turns, report.rounds].map(|number| number as u64));
+    append_words(&mut line, &report.moves);
+    append_words(&mut line, &report.waits);
+    append_bytes(&mut line, log);
     line
 }
 
@@ -297,26 +291,6 @@ fn ending(ending: Ending) -> String {
     }
 }
 
-/// The numbers of a line, or none if it isn't a line of numbers.
-pub fn numbers(line: &[u8]) -> Option<Vec<u64>> {
-    if line.len() > MAX_LINE {
-        return None;
-    }
-    line.split(|&byte| byte == b' ').map(number).collect()
-}
-
-/// The number that the digits write, or none if there are other bytes, none or too many of them,
-/// or the number is 2^64 or more.
-fn number(digits: &[u8]) -> Option<u64> {
-    if digits.is_empty() || digits.len() > MAX_DIGITS {
-        return None;
-    }
-    digits.iter().try_fold(0_u64, |number, digit| {
-        let digit = digit.is_ascii_digit().then(|| u64::from(digit - b'0'))?;
-        number.checked_mul(10)?.checked_add(digit)
-    })
-}
-
 /// The number as a byte, if it fits.
 fn byte(number: u64) -> Option<u8> {
     u8::try_from(number).ok()
@@ -325,14 +299,6 @@ fn byte(number: u64) -> Option<u8> {
 /// The number as 32 bits, if it fits.
 fn word(number: u64) -> Option<u32> {
     u32::try_from(number).ok()
-}
-
-/// The numbers as bytes, if they fit and aren't too many.
-pub fn bytes(numbers: &[u64], most: usize) -> Option<Vec<u8>> {
-    if numbers.len() > most {
-        return None;
-    }
-    numbers.iter().map(|&number| byte(number)).collect()
 }
 
 /// The first entries as a parent, a start and a work table of so many bytes, and the entries after
@@ -353,14 +319,4 @@ fn first_table(entries: &[u64], length: u64) -> Option<(Vec<u8>, &[u64])> {
 /// A buffer to lend, filled with one value, if it isn't too long.
 pub fn lent<T: Clone>(length: u64, most: u64, value: T) -> Option<Vec<T>> {
     (length <= most).then(|| vec![value; length as usize])
-}
-
-/// Appends values to a line, with a single space between any two.
-pub fn append<T: Display>(line: &mut String, values: &[T]) {
-    for value in values {
-        if !line.is_empty() {
-            line.push(' ');
-        }
-        let _ = write!(line, "{value}");
-    }
 }

@@ -1,5 +1,5 @@
 //! The soak: sends random requests through this program and another one until the time is up,
-//! and shows the shortest requests it can find on which their answers differ.
+//! and shows the shortest requests it can find on which their answers differ, or names the batch.
 
 mod programs;
 mod shrink;
@@ -28,8 +28,25 @@ pub fn time(minutes: &str) -> Option<Duration> {
     }
 }
 
-/// Soaks for some time. Gives whether all answers were the same.
+/// Soaks for some time, and shows the shortest requests. Gives whether all answers were the same.
 pub fn soak(time: Duration, other: &[&str]) -> io::Result<bool> {
+    soaked(time, other, |programs, requests| {
+        println!("shrinking it");
+        report(programs, &shrink::shrink(programs, requests)?)
+    })
+}
+
+/// Soaks for some time, and names a batch alone. Gives whether all answers were the same.
+pub fn seek(time: Duration, other: &[&str]) -> io::Result<bool> {
+    soaked(time, other, |_, _| Ok(()))
+}
+
+/// Sends batches through both programs until their answers differ; then tells of it.
+fn soaked(
+    time: Duration,
+    other: &[&str],
+    tell: impl FnOnce(&Programs, Requests) -> io::Result<()>,
+) -> io::Result<bool> {
     let programs = Programs::new(other)?;
     let mut progress = Progress::new(time);
     let first_seed = seed_of_the_clock();
@@ -38,8 +55,8 @@ pub fn soak(time: Duration, other: &[&str]) -> io::Result<bool> {
         let requests = batch(seed);
         if programs.difference(&requests)?.is_some() {
             progress.end_line();
-            println!("a difference in the batch `second random {seed} {BATCH}`; shrinking it");
-            report(&programs, &shrink::shrink(&programs, requests)?)?;
+            println!("a difference in the batch `second random {seed} {BATCH}`");
+            tell(&programs, requests)?;
             println!("soak: {progress}, a difference");
             return Ok(false);
         }

@@ -3,7 +3,8 @@
 
 use super::answer::Answer;
 use super::functions::{self, Turns, PAGE};
-use crate::requests::{append, bytes, first_tables, lent, numbers};
+use crate::lines::{append, append_bytes, append_words, bytes, numbers};
+use crate::requests::{first_tables, lent};
 use crate::requests::{MAX_REQUEST_TRACE, MAX_REQUEST_TURNS, MAX_TABLE};
 use crate::setup::Setup;
 
@@ -144,7 +145,7 @@ fn passes(n: u64, pairs: u64, turns: &[u64]) -> Option<String> {
     let mut answer = Answer::filled();
     functions::passes(n, &schedule, &mut pairs, &mut answer);
     let mut line = start(&answer);
-    append(&mut line, &pairs);
+    append_words(&mut line, &pairs);
     Some(line)
 }
 
@@ -160,7 +161,7 @@ fn shape(number: u64, n: u64, table: u64) -> Option<String> {
     let mut answer = Answer::filled();
     functions::shape(number, n, &mut table, &mut answer);
     let mut line = start(&answer);
-    append(&mut line, &table);
+    append_bytes(&mut line, &table);
     Some(line)
 }
 
@@ -193,8 +194,8 @@ fn read(parents: u64, turns: u64, text: &[u64]) -> Option<String> {
     let mut answer = Answer::filled();
     functions::read(&text, &mut parents, &mut turns, &mut answer);
     let mut line = start(&answer);
-    append(&mut line, &parents);
-    append(&mut line, &turns);
+    append_bytes(&mut line, &parents);
+    append_bytes(&mut line, &turns);
     Some(line)
 }
 
@@ -203,7 +204,7 @@ fn sheet(text: &[u64]) -> Option<String> {
     let text = bytes(text, MAX_REQUEST_TURNS)?;
     let mut page = [BYTE; PAGE];
     let mut line = functions::sheet(&text, &mut page).to_string();
-    append(&mut line, &page);
+    append_bytes(&mut line, &page);
     Some(line)
 }
 
@@ -227,7 +228,7 @@ fn start<const NUMBERS: usize>(answer: &Answer<NUMBERS>) -> String {
 /// The answer line of a run.
 fn run_line(answer: &Answer<3>, log: &[u8], list: &[u32]) -> String {
     let mut line = start(answer);
-    append(&mut line, log);
-    append(&mut line, list);
+    append_bytes(&mut line, log);
+    append_words(&mut line, list);
     line
 }

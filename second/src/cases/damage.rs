@@ -40,6 +40,18 @@ pub fn damage_for_a_while(recorder: &mut Recorder, random: &mut Random) {
     }
 }
 
+/// Changes many a field of a fresh state to a small value, asking whether it is in range; each one
+/// is changed back.
+pub fn small_values(recorder: &mut Recorder, random: &mut Random) {
+    let (kind, n) = (random.pick(&KINDS), random.length(1, 4));
+    accepted_fresh(recorder, random, kind, n);
+    for _ in 0..30 {
+        let field = random.below(21);
+        let task = if matches!(field, 9..=13) { 0 } else { random.length(0, n) };
+        recorder.with(field, task, random.below(6), Recorder::ready);
+    }
+}
+
 /// A field, a task and a value.
 fn any_change(recorder: &Recorder, random: &mut Random) -> (u64, u64, u64) {
     let state = recorder.state();

@@ -1,7 +1,7 @@
 //! Random fresh states and setups: accepted ones, and ones that may be refused.
 
 use super::values::{near, near_length};
-use crate::machine::{SYMMETRIC, TREE};
+use crate::machine::{KINDS, SYMMETRIC, TREE};
 use crate::parents;
 use crate::random::Random;
 use crate::recorder::Recorder;
@@ -51,6 +51,21 @@ pub fn any_fresh(recorder: &mut Recorder, random: &mut Random) {
         recorder.ready();
     }
     recorder.show();
+}
+
+/// Fresh states and shapes of which one number is a small one that may be refused.
+pub fn small_numbers(recorder: &mut Recorder, random: &mut Random) {
+    for kind in KINDS {
+        let n = random.length(1, 4);
+        let mut setup = accepted_setup(random, kind, n);
+        match random.below(3) {
+            0 => setup.modulus = random.below(4),
+            1 => setup.works = works::up_to(random, 3, n + 1),
+            _ => setup.kind = random.below(6),
+        }
+        recorder.fresh_setup(&setup);
+        recorder.shape(random.below(6), n as u64, n as u64);
+    }
 }
 
 /// A setup that may be refused.

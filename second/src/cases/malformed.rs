@@ -1,9 +1,9 @@
 //! Lines that are no requests, of every sort, and the requests that just still are.
 
+use crate::lines::MAX_LINE;
 use crate::machine::{Tables, RING, TREE};
 use crate::playback::MAX_TRACE;
 use crate::recorder::{line, Recorder};
-use crate::requests::MAX_LINE;
 use crate::schedules::{cycle, repeat};
 use crate::setup::Setup;
 

@@ -2,9 +2,9 @@
 
 use super::calls::{any_first_pass, any_passes, any_shape, misspelt};
 use super::centralized::any_pair;
-use super::damage::{damage, damage_for_a_while, state_in_range};
+use super::damage::{damage, damage_for_a_while, small_values, state_in_range};
 use super::damage::{near_full_tallies, near_the_end_of_work, near_the_limit, spread_counts};
-use super::fresh::{accepted_fresh, any_fresh};
+use super::fresh::{accepted_fresh, any_fresh, small_numbers};
 use super::plays::{any_plays, long_play, plays_without_starts};
 use super::steps::{any_run, turn_of_ready, turn_of_someone};
 use super::values::{any_task_count, near_length, TASK_COUNTS};
@@ -49,13 +49,15 @@ fn damaged_run(recorder: &mut Recorder, random: &mut Random) {
 
 // ---- scenes ----
 
-/// At least so many random requests.
+/// At least so many random requests. Some are of sorts that the stored cases have none of.
 pub fn requests(recorder: &mut Recorder, random: &mut Random, count: usize) {
     while recorder.count() < count {
         match random.below(400) {
             0 => long_schedule(recorder, random),
             1 | 2 => long_play(recorder, random),
             3..=12 => plays_without_starts(recorder, random),
+            13..=20 => small_values(recorder, random),
+            21..=36 => small_numbers(recorder, random),
             _ => scene(recorder, random),
         }
     }

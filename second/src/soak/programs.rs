@@ -1,7 +1,7 @@
-//! The two programs of the soak: starting them, sending requests through both, and finding the
-//! first answer that differs.
+//! The two programs of the soak: this one, which answers here, and the other, which is started with
+//! the requests; and the first answer that differs.
 
-use std::env;
+use crate::requests::Replay;
 use std::io::{self, Read, Write};
 use std::process::{Child, Command, Stdio};
 use std::sync::mpsc;
@@ -17,9 +17,8 @@ pub type Requests = Vec<Vec<u8>>;
 /// Answer lines with their line feeds.
 type Answers = Vec<Vec<u8>>;
 
-/// This program and the other one, each as the words of its command.
+/// This program and the other one, as the words of its command.
 pub struct Programs {
-    own: Vec<String>,
     other: Vec<String>,
 }
 
@@ -33,12 +32,7 @@ pub struct Difference {
 impl Programs {
     /// Makes sure that the other program answers at all.
     pub fn new(other: &[&str]) -> io::Result<Programs> {
-        let own = env::current_exe()?.into_os_string().into_string();
-        let own = own.map_err(|_| io::Error::other("the name of this program is no text"))?;
-        let programs = Programs {
-            own: vec![own, "answer".to_string()],
-            other: other.iter().map(ToString::to_string).collect(),
-        };
+        let programs = Programs { other: other.iter().map(ToString::to_string).collect() };
         let child = start(&programs.other, Stdio::inherit())?;
         match answers(child, b"5\n".to_vec())?.first() {
             Some(line) if line.ends_with(b"\n") => Ok(programs),
@@ -50,15 +44,19 @@ impl Programs {
     pub fn difference(&self, requests: &[Vec<u8>]) -> io::Result<Option<Difference>> {
         let mut text = requests.join(&b'\n');
         text.push(b'\n');
-        let own = start(&self.own, Stdio::null())?;
         let other = start(&self.other, Stdio::null())?;
-        let requests = text.clone();
-        let other = thread::spawn(move || answers(other, requests));
-        let own = answers(own, text)?;
+        let other = thread::spawn(move || answers(other, text));
+        let own = own_answers(requests);
         let other = other.join();
         let other = other.map_err(|_| io::Error::other("a thread failed"))??;
         Ok(first_difference(&own, &other))
     }
+}
+
+/// This program's answers.
+fn own_answers(requests: &[Vec<u8>]) -> Answers {
+    let mut replay = Replay::default();
+    requests.iter().map(|request| (replay.answer(request) + "\n").into_bytes()).collect()
 }
 
 /// Starts a program.

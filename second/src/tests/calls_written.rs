@@ -1,11 +1,13 @@
 //! The calls that are written: every reason of every function, both sides of the limits, and that
 //! what is refused has written nothing.
 
-use crate::calls::all;
+use crate::calls;
 use crate::calls::caller::Caller;
 use crate::calls::reasons::{Met, REASONS};
-use crate::requests::MAX_LINE;
+use crate::calls::recorder::Recorder;
+use crate::lines::MAX_LINE;
 use std::collections::HashSet;
+use std::sync::OnceLock;
 
 /// A request and its answer, as numbers.
 struct Asked {
@@ -13,13 +15,28 @@ struct Asked {
     answer: Vec<u64>,
 }
 
-/// All requests of the calls proper.
-fn asked() -> Vec<Asked> {
-    let calls = all();
-    let lines = calls.requests().lines().zip(calls.answers().lines());
-    let numbers = |line: &str| line.split(' ').map(|word| word.parse().unwrap_or(0)).collect();
-    let asked = |(request, answer)| Asked { request: numbers(request), answer: numbers(answer) };
-    lines.map(asked).filter(|asked: &Asked| asked.request[0] < 14).collect()
+/// All calls, which are made once for all tests.
+fn all() -> &'static Recorder {
+    static ALL: OnceLock<Recorder> = OnceLock::new();
+    ALL.get_or_init(calls::all)
+}
+
+/// All requests of the calls proper, likewise.
+fn asked() -> &'static [Asked] {
+    static ASKED: OnceLock<Vec<Asked>> = OnceLock::new();
+    ASKED.get_or_init(|| {
+        let lines = all().requests().lines().zip(all().answers().lines());
+        let asked = |(request, answer)| Asked {
+            request: numbers(request).unwrap_or_default(),
+            answer: numbers(answer).unwrap_or_default(),
+        };
+        lines.map(asked).filter(|asked| asked.request[0] < 14).collect()
+    })
+}
+
+/// The numbers of a line.
+fn numbers(line: &str) -> Option<Vec<u64>> {
+    line.split(' ').map(|word| word.parse().ok()).collect()
 }
 
 // ---- reasons ----
@@ -50,8 +67,8 @@ fn a_missing_and_another_reason_are_told() {
 /// The sheets are refused for each of their reasons, and one is a table.
 #[test]
 fn every_sheet_is_met() {
-    let sheets = asked().into_iter().filter(|asked| asked.request[0] == 13);
-    let text = |asked: Asked| -> String {
+    let sheets = asked().iter().filter(|asked| asked.request[0] == 13);
+    let text = |asked: &Asked| -> String {
         let printed = &asked.answer[1..][..asked.answer[0] as usize];
         printed.iter().map(|&byte| byte as u8 as char).collect()
     };
@@ -113,7 +130,7 @@ fn both_sides_of_the_longest() {
     let mut met = HashSet::new();
     for Asked { request, answer } in asked() {
         if matches!(request[0], 2 | 3 | 6 | 9 | 10 | 12) {
-            met.insert((request[0], length(&request), answer[0]));
+            met.insert((request[0], length(request), answer[0]));
         }
     }
     for function in [2, 3, 6, 10] {
@@ -181,10 +198,13 @@ fn refused_calls_write_nothing() {
     for (request, answer) in calls.requests().lines().zip(calls.answers().lines()) {
         let before = caller.list().to_vec();
         assert_eq!(caller.answer(request.as_bytes()).as_deref(), Some(answer));
-        let numbers = |line: &str| line.split(' ').filter_map(|word| word.parse().ok()).collect();
-        let asked = Asked { request: numbers(request), answer: numbers(answer) };
+        let (Some(request_numbers), Some(answer_numbers)) = (numbers(request), numbers(answer))
+        else {
+            continue;
+        };
+        let asked = Asked { request: request_numbers, answer: answer_numbers };
         let function = asked.request[0];
-        if function > 13 || !refused(&asked) {
+        if !refused(&asked) {
             continue;
         }
         if function != 1 {

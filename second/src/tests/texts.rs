@@ -1,8 +1,8 @@
 //! The texts of the sheet and of the replay.
 
 use crate::cases::malformed::first_pass_line;
-use crate::requests::{Replay, MAX_LINE};
-use crate::serve;
+use crate::lines::{self, MAX_LINE};
+use crate::requests::Replay;
 use crate::sheet::sheet;
 
 #[test]
@@ -470,7 +470,9 @@ fn longest_requests() {
 /// What the replay writes for an input.
 fn served(input: &[u8]) -> String {
     let (mut replay, mut output) = (Replay::default(), Vec::new());
-    assert!(serve::answer(input, &mut output, |line| replay.answer(line)).is_ok());
+    let mut input = input;
+    let mut answer = |line: &[u8]| replay.answer(line);
+    assert!(lines::answer(&mut input, &mut output, &mut answer).is_ok());
     String::from_utf8(output).unwrap_or_default()
 }
 
