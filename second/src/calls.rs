@@ -8,6 +8,7 @@ pub mod compare;
 pub mod functions;
 pub mod limit;
 pub mod list;
+pub mod random;
 pub mod reasons;
 pub mod recorder;
 
@@ -22,8 +23,7 @@ pub const ANSWERS: &str = "answers";
 
 /// Writes the requests and their answers. Gives the number of requests. It is an error if a
 /// function hasn't given each of its reasons.
-pub fn write(folder: &Path) -> io::Result<usize> {
-    let calls = all();
+pub fn write(calls: &Recorder, folder: &Path) -> io::Result<usize> {
     calls.met().check().map_err(io::Error::other)?;
     fs::create_dir_all(folder)?;
     fs::write(folder.join(REQUESTS), calls.requests())?;
@@ -31,7 +31,7 @@ pub fn write(folder: &Path) -> io::Result<usize> {
     Ok(calls.count())
 }
 
-/// All requests with their answers.
+/// All requests that go through every function and reason, with their answers.
 pub fn all() -> Recorder {
     let mut recorder = Recorder::default();
     cases::add(&mut recorder);

@@ -31,6 +31,7 @@ mod works;
 #[cfg(test)]
 mod tests;
 
+use calls::recorder::Recorder;
 use std::env;
 use std::io::{self, BufWriter, Write};
 use std::path::Path;
@@ -53,6 +54,8 @@ usage:
                                   print the finding of a play, likewise
   second call                     answer the calls on standard input
   second calls DIR                write the calls to DIR/requests and their answers to DIR/answers
+  second random-calls SEED ROUNDS DIR
+                                  write random calls likewise, so many rounds of every kind and N
   second compare DIR FILE         compare the answers to the calls in a file with those in DIR
   second traces                   print the named traces of kind 0 that have no start table
   second random SEED COUNT        print so many random requests
@@ -89,13 +92,16 @@ fn command(arguments: &[&str]) -> Result<io::Result<bool>, &'static str> {
         ["write", folder] => Ok(write(Path::new(folder)).map(|()| true)),
         ["sheets", folder] => Ok(sheets(Path::new(folder)).map(|()| true)),
         ["plays", folder] => Ok(plays(Path::new(folder)).map(|()| true)),
-        ["calls", folder] => Ok(calls(Path::new(folder)).map(|()| true)),
+        ["calls", folder] => Ok(calls(&calls::all(), Path::new(folder)).map(|()| true)),
+        ["random-calls", seed, rounds, folder] => {
+            let (seed, rounds) = two_numbers(seed, rounds, "SEED and ROUNDS are whole numbers")?;
+            let written = calls(&calls::random::calls(seed, rounds), Path::new(folder));
+            Ok(written.map(|()| true))
+        }
         ["compare", folder, answered] => Ok(compare(Path::new(folder), Path::new(answered))),
         ["traces"] => Ok(commands::print(Ok(traces::table())).map(|()| true)),
         ["random", seed, count] => {
-            let numbers = "SEED and COUNT are whole numbers";
-            let seed = seed.parse().map_err(|_| numbers)?;
-            let count = count.parse().map_err(|_| numbers)?;
+            let (seed, count) = two_numbers(seed, count, "SEED and COUNT are whole numbers")?;
             Ok(random(seed, count).map(|()| true))
         }
         ["soak", minutes, other @ ..] if !other.is_empty() => {
@@ -105,6 +111,14 @@ fn command(arguments: &[&str]) -> Result<io::Result<bool>, &'static str> {
             Ok(soak::seek(soak_time(minutes)?, other))
         }
         _ => Err("no such command"),
+    }
+}
+
+/// Two numbers of a command, or the words for it that they aren't.
+fn two_numbers(seed: &str, count: &str, wrong: &'static str) -> Result<(u64, usize), &'static str> {
+    match (seed.parse(), count.parse()) {
+        (Ok(seed), Ok(count)) => Ok((seed, count)),
+        _ => Err(wrong),
     }
 }
 
@@ -130,8 +144,8 @@ fn plays(folder: &Path) -> io::Result<()> {
     Ok(())
 }
 
-fn calls(folder: &Path) -> io::Result<()> {
-    let count = calls::write(folder)?;
+fn calls(calls: &Recorder, folder: &Path) -> io::Result<()> {
+    let count = calls::write(calls, folder)?;
     println!("{count} requests");
     Ok(())
 }

@@ -11,7 +11,7 @@ mod plays;
 mod rows;
 mod runs;
 mod sessions;
-mod setups;
+pub mod setups;
 mod shapes;
 mod stops;
 mod texts;

@@ -18,20 +18,33 @@ pub const REASONS: [(u64, &[u64]); 11] = [
     (12, &[0, 1, 2, 3, 4, 5, 6, 9, 10]),
 ];
 
-/// Functions with reasons that they have given.
+/// Functions with a number that must be 0 in some of their accepted answers and not in others, and
+/// its place there: whether rounds closed, a trace agreed, and there was a pass.
+pub const TOLD: [(u64, usize); 6] = [(2, 3), (3, 3), (10, 3), (4, 2), (9, 1), (7, 0)];
+
+/// Functions with reasons that they have given, and with what they have told: false for a 0.
 #[derive(Default)]
 pub struct Met {
     pairs: BTreeSet<(u64, u64)>,
+    told: BTreeSet<(u64, bool)>,
 }
 
 impl Met {
-    /// Takes in a request and its answer, if it is of a function that answers a reason.
+    /// Takes in a request and its answer, if it is of a function that answers a reason or tells
+    /// what must be told.
     pub fn take(&mut self, request: &str, answer: &str) {
-        let first = |line: &str| line.split(' ').next().and_then(|word| word.parse().ok());
-        if let (Some(function), Some(reason)) = (first(request), first(answer)) {
-            if REASONS.iter().any(|&(other, _)| other == function) {
-                self.pairs.insert((function, reason));
-            }
+        let word =
+            |line: &str, place| line.split(' ').nth(place).and_then(|word| word.parse().ok());
+        let (Some(function), Some(reason)) = (word(request, 0), word(answer, 0)) else {
+            return;
+        };
+        if REASONS.iter().any(|&(other, _)| other == function) {
+            self.pairs.insert((function, reason));
+        }
+        // A first pass has no reason.
+        let accepted = reason == 0 || function == 7;
+        for (_, place) in TOLD.into_iter().filter(|&(other, _)| other == function && accepted) {
+            self.told.insert((function, word(answer, place).unwrap_or(0) != 0));
         }
     }
 
@@ -41,7 +54,8 @@ impl Met {
         own.map(|&(_, reason)| reason).collect()
     }
 
-    /// Whether each function has given each of its reasons and no other; the words say which.
+    /// Whether each function has given each of its reasons and no other, and has told both what it
+    /// must tell and a 0; the words say which hasn't.
     pub fn check(&self) -> Result<(), String> {
         for (function, reasons) in REASONS {
             let met = self.of(function);
@@ -49,6 +63,12 @@ impl Met {
                 return Err(format!("function {function} gave {met:?}, not {reasons:?}"));
             }
         }
-        Ok(())
+        let told_both = |(function, _): &(u64, usize)| {
+            [false, true].iter().all(|&told| self.told.contains(&(*function, told)))
+        };
+        match TOLD.iter().find(|told| !told_both(told)) {
+            Some((function, _)) => Err(format!("function {function} told always or never")),
+            None => Ok(()),
+        }
     }
 }

@@ -3,16 +3,17 @@
 
 use crate::calls;
 use crate::calls::caller::Caller;
-use crate::calls::reasons::{Met, REASONS};
+use crate::calls::reasons::{Met, REASONS, TOLD};
 use crate::calls::recorder::Recorder;
 use crate::lines::MAX_LINE;
+use crate::recorder::line;
 use std::collections::HashSet;
 use std::sync::OnceLock;
 
 /// A request and its answer, as numbers.
-struct Asked {
-    request: Vec<u64>,
-    answer: Vec<u64>,
+pub struct Asked {
+    pub request: Vec<u64>,
+    pub answer: Vec<u64>,
 }
 
 /// All calls, which are made once for all tests.
@@ -24,14 +25,17 @@ fn all() -> &'static Recorder {
 /// All requests of the calls proper, likewise.
 fn asked() -> &'static [Asked] {
     static ASKED: OnceLock<Vec<Asked>> = OnceLock::new();
-    ASKED.get_or_init(|| {
-        let lines = all().requests().lines().zip(all().answers().lines());
-        let asked = |(request, answer)| Asked {
-            request: numbers(request).unwrap_or_default(),
-            answer: numbers(answer).unwrap_or_default(),
-        };
-        lines.map(asked).filter(|asked| asked.request[0] < 14).collect()
-    })
+    ASKED.get_or_init(|| asked_of(all()))
+}
+
+/// The requests of the calls proper.
+pub fn asked_of(calls: &Recorder) -> Vec<Asked> {
+    let lines = calls.requests().lines().zip(calls.answers().lines());
+    let asked = |(request, answer)| Asked {
+        request: numbers(request).unwrap_or_default(),
+        answer: numbers(answer).unwrap_or_default(),
+    };
+    lines.map(asked).filter(|asked| asked.request[0] < 14).collect()
 }
 
 /// The numbers of a line.
@@ -53,6 +57,14 @@ fn a_missing_and_another_reason_are_told() {
         for reason in reasons {
             assert!(met.check().is_err());
             met.take(&format!("{function} 0"), &format!("{reason} 0"));
+        }
+    }
+    for (function, place) in TOLD {
+        for told in [0, 1] {
+            assert!(met.check().is_err_and(|words| words.ends_with("told always or never")));
+            let mut answer = [0; 4];
+            answer[place] = told;
+            met.take(&format!("{function} 0"), &line(&answer, &[]));
         }
     }
     assert_eq!(met.check(), Ok(()));
@@ -174,10 +186,14 @@ fn refused(asked: &Asked) -> bool {
     }
 }
 
-/// Every number of a refused call is 0, but the place of a 9.
 #[test]
 fn refused_calls_answer_zeros() {
-    for asked in asked().iter().filter(|asked| refused(asked)) {
+    check_answers(asked());
+}
+
+/// Every number of a refused call is 0, but the place of a 9.
+pub fn check_answers(asked: &[Asked]) {
+    for asked in asked.iter().filter(|asked| refused(asked)) {
         let function = asked.request[0];
         let mut numbers = asked.answer[1..answered(function)].to_vec();
         match (function, asked.answer[0]) {
@@ -189,32 +205,40 @@ fn refused_calls_answer_zeros() {
     }
 }
 
-/// What a refused call was lent is filled as it was, and the state list is the one before.
 #[test]
 fn refused_calls_write_nothing() {
-    let calls = all();
+    let met = check_lent(all());
+    assert!(met > 1_500, "{met}");
+}
+
+/// What a refused call was lent is filled as it was, and the state list is the one before. Gives the
+/// number of refused calls.
+pub fn check_lent(calls: &Recorder) -> usize {
     let mut caller = Caller::default();
     let mut met = 0;
     for (request, answer) in calls.requests().lines().zip(calls.answers().lines()) {
         let before = caller.list().to_vec();
         assert_eq!(caller.answer(request.as_bytes()).as_deref(), Some(answer));
-        let (Some(request_numbers), Some(answer_numbers)) = (numbers(request), numbers(answer))
-        else {
-            continue;
-        };
-        let asked = Asked { request: request_numbers, answer: answer_numbers };
-        let function = asked.request[0];
-        if !refused(&asked) {
-            continue;
+        if let (Some(request), Some(answer)) = (numbers(request), numbers(answer)) {
+            let asked = Asked { request, answer };
+            met += usize::from(refused(&asked));
+            check_lent_of(&asked, &before, caller.list());
         }
-        if function != 1 {
-            assert_eq!(caller.list(), before);
-        }
-        let shown = if matches!(function, 3 | 4 | 10) { before.len() } else { 0 };
-        let lent = &asked.answer[answered(function)..asked.answer.len() - shown];
-        let filled = [u8::MAX.into(), u32::MAX.into(), u64::MAX];
-        assert!(lent.iter().all(|number| filled.contains(number)), "{request:.150}");
-        met += 1;
     }
-    assert!(met > 1_500, "{met}");
+    met
+}
+
+/// The same of one call, with the state list before and after it.
+fn check_lent_of(asked: &Asked, before: &[u64], after: &[u64]) {
+    let function = asked.request[0];
+    if !refused(asked) {
+        return;
+    }
+    if function != 1 {
+        assert_eq!(after, before);
+    }
+    let shown = if matches!(function, 3 | 4 | 10) { before.len() } else { 0 };
+    let lent = &asked.answer[answered(function)..asked.answer.len() - shown];
+    let filled = [u8::MAX.into(), u32::MAX.into(), u64::MAX];
+    assert!(lent.iter().all(|number| filled.contains(number)), "{:?}", asked.request);
 }
