@@ -1,5 +1,7 @@
 // Sets of tasks 0 to 63 in a u64, a bit a task. Every function is total: a task of 64 or more is in no set, and putting it on
 // changes nothing. What each answers is defined in specs/Set.antt; the laws are in specs/SetLaws.antt.
+#![tactic(auto)]
+
 ghost use Rattle.std.specs.Prelude.{◌≡◌, min};
 ghost use Rattle.bitset.specs.Tasks.{is_count};
 ghost use Rattle.bitset.specs.Set.{member_of, least_of, first_from, without_of, with_of, all_of, within_of, size_of};
@@ -31,7 +33,7 @@ pub fn least(list: u64) -> usize
 // The first task of the set at or above the start, going round to 0 after the last; 64 for the empty set. A start of 64 or more is taken by its
 // remainder.
 pub fn first(list: u64, start: usize) -> usize
-    ensures { result ≡ first_of list start }
+    ensures { result ≡ first_from list start }
 {
     let above = list & (!0u64 << (start % 64));
     if above == 0 {

@@ -104,7 +104,7 @@ pub(crate) fn least(list: u64) -> u8
 
 // The first task of a list at or above the start, going round, as a byte; 64 for the empty list.
 pub(crate) fn first(list: u64, start: u8) -> u8
-    ensures { result ≡ first_of list start }
+    ensures { result ≡ first_from list start }
 {
     bitset::first(list, start as usize) as u8
 }
