@@ -1,5 +1,7 @@
 // The library for programs in C and Rust: numbers, slices and lent buffers only. What each function answers is defined in specs/Entry.antt over
 // the definitions of the crates below. A state that a caller keeps between calls is a list of 64-bit numbers (`snapshot`).
+#![tactic(auto)]
+
 ghost use Rattle.std.specs.Prelude.{◌≡◌, length};
 ghost use Rattle.schedule.specs.FirstPass.{first_pass_of};
 ghost use Rattle.machine.specs.Fresh.{inputs_of};
@@ -46,8 +48,7 @@ fn kept_in(list: &[u64]) -> Begun
 
 // Writes a fresh state with these tables of parents, starts and work lengths to the list. Answers the reason that refused it, or 10 for a
 // short list; 0 if nothing was refused.
-#[unsafe(no_mangle)]
-pub extern "C" fn tungwaff_fresh(
+pub fn tungwaff_fresh(
     kind: usize,
     n: usize,
     modulus: usize,
@@ -145,8 +146,7 @@ fn tell(ran: Ran, turns: &mut usize, place: &mut usize, rounds: &mut u32) -> u8
 // bytes a turn to the log, and to `tasks` four numbers a task: its line and its count at the end, its moves and its waits. Answers the reason
 // that refused the fresh state, the run or a turn; 0 if nothing was refused. The turns are those made, the place is that of reason 9, else 0, and
 // the rounds are those that the turns closed.
-#[unsafe(no_mangle)]
-pub extern "C" fn tungwaff_run(
+pub fn tungwaff_run(
     kind: usize,
     n: usize,
     modulus: usize,
@@ -176,8 +176,7 @@ pub extern "C" fn tungwaff_run(
 
 // Runs the schedule as `tungwaff_run` does, from the state that the list keeps, and writes the state after it to the list. Reason 10 is also that of
 // a list that is too short for a state, and 7 that of one whose numbers are no state in range.
-#[unsafe(no_mangle)]
-pub extern "C" fn tungwaff_resume(
+pub fn tungwaff_resume(
     list: &mut [u64],
     schedule: &[u8],
     allowance: usize,
@@ -203,8 +202,7 @@ pub extern "C" fn tungwaff_resume(
 
 // Runs the schedule as `tungwaff_resume` does, and writes to `rows` six numbers for every turn made: its task, its line before, 1 if it moved or 0 if
 // it waited, the task's count after it, the least count after it, and 1 if it closed a round, else 0.
-#[unsafe(no_mangle)]
-pub extern "C" fn tungwaff_rows(
+pub fn tungwaff_rows(
     list: &mut [u64],
     schedule: &[u8],
     allowance: usize,
@@ -258,8 +256,7 @@ fn ready_in(begun: Begun) -> Ready
 
 // Makes a turn of the task from the state that the list keeps, and writes the state after it to the list. Answers the reason that refused the list
 // or the turn; 0 if nothing was refused. `moved` is 1 if the turn moved, 0 if it waited or was refused; `closed` is 1 if it closed a round, else 0.
-#[unsafe(no_mangle)]
-pub extern "C" fn tungwaff_turn(
+pub fn tungwaff_turn(
     list: &mut [u64],
     task: usize,
     moved: &mut u8,
@@ -282,8 +279,7 @@ pub extern "C" fn tungwaff_turn(
 
 // Asks who can move in the state that the list keeps. Answers the reason that refused it; 0 if nothing was refused. `task` is the least task that
 // can move, 64 if nobody can, and 0 where it was refused.
-#[unsafe(no_mangle)]
-pub extern "C" fn tungwaff_ready(list: &[u64], task: &mut usize) -> u8
+pub fn tungwaff_ready(list: &[u64], task: &mut usize) -> u8
     ensures { defs.ready_told list.now ≡ record { reason = result; task = task.new } }
 {
     let ready = ready_in(kept_in(list));
@@ -293,8 +289,7 @@ pub extern "C" fn tungwaff_ready(list: &[u64], task: &mut usize) -> u8
 
 // Writes the pairs of offset and length of a schedule's passes. Answers the reason that refused the call, 0 if it was not refused. The
 // count is that of the passes, and the place that of reason 9, else 0.
-#[unsafe(no_mangle)]
-pub extern "C" fn tungwaff_passes(
+pub fn tungwaff_passes(
     n: usize,
     schedule: &[u8],
     pairs: &mut [u32],
@@ -311,8 +306,7 @@ pub extern "C" fn tungwaff_passes(
 }
 
 // The length of the first whole pass that begins at the place; 0 where there is none.
-#[unsafe(no_mangle)]
-pub extern "C" fn tungwaff_first_pass(n: usize, schedule: &[u8], place: usize) -> usize
+pub fn tungwaff_first_pass(n: usize, schedule: &[u8], place: usize) -> usize
     ensures { result ≡ length (first_pass_of n place schedule.now) }
 {
     let pass = schedule::first_pass(schedule, n, place);
@@ -320,8 +314,7 @@ pub extern "C" fn tungwaff_first_pass(n: usize, schedule: &[u8], place: usize) -
 }
 
 // Writes a shape's table of parents. Answers the reason that refused the call, 0 if it was not refused.
-#[unsafe(no_mangle)]
-pub extern "C" fn tungwaff_shape(shape: usize, n: usize, table: &mut [u8]) -> u8
+pub fn tungwaff_shape(shape: usize, n: usize, table: &mut [u8]) -> u8
     ensures { defs.shape_told shape n table.old ≡ record { reason = result; table = table.new } }
 {
     let shaped = parents::shape(shape, n, table);
@@ -339,8 +332,7 @@ fn tell_verdict(verdict: Verdict, agrees: &mut u8, index: &mut usize) -> u8
 
 // Plays a trace from a fresh state with these tables of parents, starts and work lengths. Answers the reason that refused it, 0 if it was not refused. `agrees` is 1
 // if every triple is what the defined turn does, else 0; `index` is that of the first triple that is not, from 0, and 0 where none is told.
-#[unsafe(no_mangle)]
-pub extern "C" fn tungwaff_play(
+pub fn tungwaff_play(
     kind: usize,
     n: usize,
     modulus: usize,
@@ -377,8 +369,7 @@ fn keep_played(played: Played, list: &mut [u64]) -> Verdict
 
 // Plays a trace as `tungwaff_play` does, and writes the state after it, or before the triple that differs, to the list. Reason 10 is that of a list that is too
 // short for a state, and comes last.
-#[unsafe(no_mangle)]
-pub extern "C" fn tungwaff_play_state(
+pub fn tungwaff_play_state(
     kind: usize,
     n: usize,
     modulus: usize,
@@ -400,8 +391,7 @@ pub extern "C" fn tungwaff_play_state(
 }
 
 // The passes that demand 3 promises to raise the least count. Answers the reason that refused the call, 0 if it was not refused.
-#[unsafe(no_mangle)]
-pub extern "C" fn tungwaff_limit(kind: usize, n: usize, works: &[u8], passes: &mut usize) -> u8
+pub fn tungwaff_limit(kind: usize, n: usize, works: &[u8], passes: &mut usize) -> u8
     ensures { limit_of kind n works.now ≡ record { reason = result; passes = passes.new } }
 {
     let promised = bound::limit(kind, n, works);
@@ -411,8 +401,7 @@ pub extern "C" fn tungwaff_limit(kind: usize, n: usize, works: &[u8], passes: &m
 
 // What the sheet program reads of a text: parents and schedule go to the first bytes of the buffers, and `entries` and `turns` say how many they are. Answers the
 // reason that refused it, 0 if it was not refused; the place is that of reason 9, else 0.
-#[unsafe(no_mangle)]
-pub extern "C" fn tungwaff_read(
+pub fn tungwaff_read(
     text: &[u8],
     parents: &mut [u8],
     schedule: &mut [u8],
@@ -449,8 +438,7 @@ pub extern "C" fn tungwaff_read(
 }
 
 // Prints the sheet of a text to the page, with zeros after it, and answers how many bytes it has.
-#[unsafe(no_mangle)]
-pub extern "C" fn tungwaff_sheet(text: &[u8], page: &mut [u8; 2048]) -> usize
+pub fn tungwaff_sheet(text: &[u8], page: &mut [u8; 2048]) -> usize
     ensures { defs.sheet_told text.now ≡ record { length = result; page = page.new } }
 {
     let sheet = sheet_text::sheet(text);
