@@ -1,12 +1,11 @@
 //! The program behind bin/sheet and bin/playback that says which cause a refusal had and where it stands. It needs the texts and what the
 //! proved program printed, and not the library.
 //!
-//!     explain sheet REFUSAL TEXT [NAME PROGRAM]
-//!     explain playback REFUSAL SETUP TRACE [NAME PROGRAM]
+//!     explain sheet REFUSAL TEXT [NAME]
+//!     explain playback REFUSAL SETUP TRACE [NAME]
 //!
-//! REFUSAL is the line that was printed, `refused 9 place 4`. It prints `refused 9: ` and the finding of docs/refusals.md; then, where NAME and PROGRAM
-//! are given, a line with the command that mends a byte, if there is one. NAME is what the user calls the text, `-` for standard input; PROGRAM is the
-//! proved one, which is asked whether it accepts the mended text.
+//! REFUSAL is the line that was printed, `refused 9 place 4`; NAME is what the user calls the text, if not by its file, `-` for standard input.
+//! It prints `refused 9: ` and the finding of docs/refusals.md, and a line with the command that mends a byte, where one does.
 
 mod finding;
 mod mend;
@@ -17,7 +16,7 @@ use finding::Form;
 use std::ffi::{OsStr, OsString};
 use std::fs::File;
 use std::io::{self, Read, Write};
-use std::process::{Command, ExitCode, Stdio};
+use std::process::ExitCode;
 
 /// The number of a refusal, and the place of a 9.
 fn refusal(line: &str) -> Option<(u8, usize)> {
@@ -38,47 +37,22 @@ fn bytes(path: &OsStr) -> Result<Vec<u8>, String> {
     Ok(bytes)
 }
 
-/// What the program prints for a text that is its standard input; of a play-back with a trace, which it has beside it.
-fn printed(program: &OsStr, text: &[u8], trace: Option<&OsStr>) -> io::Result<Vec<u8>> {
-    let mut command = Command::new(program);
-    if let Some(trace) = trace {
-        command.arg("/dev/stdin").arg(trace);
-    }
-    let quiet = command.stdin(Stdio::piped()).stdout(Stdio::piped()).stderr(Stdio::null());
-    let mut running = quiet.spawn()?;
-    if let Some(mut input) = running.stdin.take() {
-        input.write_all(text)?; // it prints only when it has read all
-    }
-    Ok(running.wait_with_output()?.stdout)
-}
-
-/// Whether the program accepts a text: it answers, and not by a refusal.
-fn is_accepted(program: &OsStr, text: &[u8], trace: Option<&OsStr>) -> bool {
-    printed(program, text, trace)
-        .is_ok_and(|page| !page.is_empty() && !page.starts_with(b"refused"))
-}
-
-/// The lines to print for a refusal; the files are a text and, of a play-back, a trace, and then what the user calls the text and the program.
+/// The lines to print for a refusal; the files are a text and, of a play-back, a trace, and then what the user calls the text.
 fn explained(form: Form, line: &str, files: &[OsString]) -> Result<String, String> {
     let (reason, place) = refusal(line).ok_or(format!("'{line}' is no refusal"))?;
-    let (path, trace, asked) = match (form, files) {
-        (Form::Sheet, [path, asked @ ..]) => (path, None, asked),
-        (Form::Setup, [path, trace, asked @ ..]) => (path, Some(trace.as_os_str()), asked),
+    let (path, trace, name) = match (form, files) {
+        (Form::Sheet, [path, name @ ..]) => (path, path, name),
+        (Form::Setup, [path, trace, name @ ..]) => (path, trace, name),
         _ => return Err("a file is missing".to_string()),
     };
     let text = bytes(path)?;
-    let found = match (reason, trace) {
-        (8 | 14, Some(trace)) => finding::of_trace(bytes(trace)?.len(), reason),
+    let found = match reason {
+        8 | 14 if form == Form::Setup => finding::of_trace(bytes(trace)?.len(), reason),
         _ => finding::of_text(form, &text, reason, place),
     };
     let found = found.ok_or(format!("the text shows no cause of {reason}"))?;
-    let mend = match (reason, asked) {
-        (1, [name, program]) => {
-            let name = name.to_str().unwrap_or("-");
-            mend::line(&text, name, |mended| is_accepted(program, mended, trace))
-        }
-        _ => None,
-    };
+    let name = name.first().unwrap_or(path).to_str().unwrap_or("-");
+    let mend = if reason == 1 { mend::line(form, &text, name) } else { None };
     let mend = mend.map(|line| format!("{line}\n")).unwrap_or_default();
     Ok(format!("refused {reason}: {found}\n{mend}"))
 }

@@ -205,7 +205,6 @@ fn what(bytes: &[u8]) -> String {
     match bytes {
         [0xef, 0xbb, 0xbf, ..] => "a byte-order mark".to_string(),
         [0xff, 0xfe, ..] | [0xfe, 0xff, ..] => "a byte-order mark of UTF-16".to_string(),
-        [0xc2, 0xa0, ..] => "a no-break space".to_string(),
         [b'\r', ..] => "a carriage return".to_string(),
         [b'\t', ..] => "a tab".to_string(),
         [b',', ..] => "a comma".to_string(),

@@ -24,17 +24,10 @@ pub fn text(path: &OsStr) -> Result<Vec<u8>, Stop> {
     let name = if path == "-" { "standard input".to_string() } else { quoted(path) };
     match read {
         Ok(_) => Ok(bytes),
-        Err(error) => Err(Stop::Failed(format!("cannot read {name}: {}", in_words(&error)))),
-    }
-}
-
-/// Why something cannot be read, in the words that bin/front has for it too.
-fn in_words(error: &io::Error) -> String {
-    match error.kind() {
-        ErrorKind::IsADirectory => "it is a folder".to_string(),
-        ErrorKind::NotFound | ErrorKind::NotADirectory => "there is no such file".to_string(),
-        ErrorKind::PermissionDenied => "permission is denied".to_string(),
-        _ => error.to_string(),
+        Err(error) if error.kind() == ErrorKind::IsADirectory => {
+            Err(Stop::Failed(format!("cannot read {name}: it is a folder")))
+        }
+        Err(error) => Err(Stop::Failed(format!("cannot read {name}: {error}"))),
     }
 }
 

@@ -5,7 +5,6 @@ use crate::kinds;
 use crate::mend;
 use crate::settings;
 use crate::stop::{accepted, accepted_or, Stop};
-use crate::table::counted;
 use crate::tungwaff::{self, reason, Setup, MAX_TASKS, MAX_TURNS, ROW_LENGTH, STATE, TREE};
 use crate::words;
 
@@ -62,29 +61,13 @@ pub struct Sheet {
     pub schedule: Vec<u8>,
 }
 
-impl Sheet {
-    /// What was read, in the words that bin/sheet has for it too.
-    pub fn in_words(&self) -> String {
-        let Sheet { kind, n, modulus, ref parents, ref schedule } = *self;
-        let listed: String = parents.iter().map(|parent| format!(" {parent}")).collect();
-        let table = if kind == TREE { format!(", parents{listed}") } else { String::new() };
-        let turns = counted(schedule.len(), "turn");
-        format!("read kind {kind} ({}), N {n}, R {modulus}{table}, {turns}", kinds::name(kind))
-    }
-}
-
 /// Reads a text. The name is for the command that mends it.
 pub fn read(text: &[u8], name: &str) -> Result<Sheet, Stop> {
-    sheet_in(text).map_err(|(reason, place)| refused_text(text, name, reason, place))
-}
-
-/// What a text says; else the reason that refused it, and the place of a 9.
-fn sheet_in(text: &[u8]) -> Result<Sheet, (u8, usize)> {
     let mut parents = vec![0; MAX_TASKS];
     let mut schedule = vec![0; MAX_TURNS];
     let read = tungwaff::read(text, &mut parents, &mut schedule);
     if read.reason != 0 {
-        return Err((read.reason, read.place));
+        return Err(refused_text(text, name, read.reason, read.place));
     }
     parents.truncate(read.parents);
     schedule.truncate(read.turns);
@@ -94,9 +77,8 @@ fn sheet_in(text: &[u8]) -> Result<Sheet, (u8, usize)> {
 fn refused_text(text: &[u8], name: &str, reason: u8, place: usize) -> Stop {
     let words = finding::of_text(Form::Sheet, text, reason, place)
         .unwrap_or_else(|| tungwaff::reason_text(reason).to_string());
-    let is_accepted = |mended: &[u8]| sheet_in(mended).is_ok();
     let is_text = reason == reason::TEXT;
-    let mend = if is_text { mend::line(text, name, is_accepted) } else { None };
+    let mend = if is_text { mend::line(Form::Sheet, text, name) } else { None };
     Stop::Refused { reason, words, mend }
 }
 

@@ -6,8 +6,7 @@ use crate::{output, picture, rows, table, timeline};
 use std::ffi::OsString;
 
 pub fn command(words: &[OsString]) -> Result<(), Stop> {
-    let flags = ["--csv", "--timeline", "--quiet"];
-    let given = Arguments::of(words, &["--starts", "--work", "--svg"], &flags)?;
+    let given = Arguments::of(words, &["--starts", "--work", "--svg"], &["--csv", "--timeline"])?;
     let path = given.only("a file, or - for standard input,")?;
     one_form(&given)?;
     let starts = given.table("--starts")?;
@@ -18,9 +17,6 @@ pub fn command(words: &[OsString]) -> Result<(), Stop> {
     }
     let sheet = rows::read(&output::text(path)?, output::callable(path))?;
     let told = rows::tell(&sheet, &starts, &works)?;
-    if !given.has("--quiet") {
-        output::say(&sheet.in_words());
-    }
     match picture {
         Some(out) => output::save(out, &picture::drawn(&told)),
         None if given.has("--csv") => output::print(&table::csv(&told)),

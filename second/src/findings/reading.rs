@@ -36,7 +36,6 @@ fn what(byte: u8, after: &[u8]) -> String {
     match (byte, after) {
         (239, [187, 191, ..]) => "a byte-order mark".into(),
         (255, [254, ..]) | (254, [255, ..]) => "a byte-order mark of UTF-16".into(),
-        (194, [160, ..]) => "a no-break space".into(),
         (13, _) => "a carriage return".into(),
         (9, _) => "a tab".into(),
         (44, _) => "a comma".into(),

@@ -9,11 +9,10 @@ use std::collections::BTreeSet;
 pub type Row = (u8, &'static str);
 
 /// The rows that a sheet's text and a setup can meet.
-const OF_BOTH: [Row; 16] = [
+const OF_BOTH: [Row; 15] = [
     (1, "byte 65537 of the text, which may have 65536"),
     (1, "a byte-order mark, which isn't a digit, a space or a line feed"),
     (1, "a byte-order mark of UTF-16, which isn't a digit, a space or a line feed"),
-    (1, "a no-break space, which isn't a digit, a space or a line feed"),
     (1, "a carriage return, which isn't a digit, a space or a line feed"),
     (1, "a tab, which isn't a digit, a space or a line feed"),
     (1, "a comma, which isn't a digit, a space or a line feed"),

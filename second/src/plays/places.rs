@@ -11,8 +11,6 @@ pub fn add(plays: &mut Plays) {
     limit(plays);
     wrong_bytes(plays);
     marks(plays);
-    no_break_spaces(plays);
-    cut_no_break_spaces(plays);
     long_numbers(plays);
     ends(plays);
     fewer_than_said(plays);
@@ -46,9 +44,6 @@ fn limit(plays: &mut Plays) {
         ("65538-tab-behind-the-limit", "2 2 0 0 0", " 0\t", more + 1),
         ("65537-tab-and-six-digits-before", "2\t2 0 0 0 000000\n", "", more),
         ("65537-fewer-numbers-than-said", "2 2 0 0 0 1\n", "", more),
-        ("65537-no-break-space-before", "2 2 0 0 0\n\u{a0}0", "", more),
-        ("65537-no-break-space-across-the-limit", "2 2 0 0 0 0", "\u{a0}", more),
-        ("65536-no-break-space-at-the-limit", "2 2 0 0 0 0\n", "\u{a0}", MAX_TEXT),
         ("65536-six-digits-at-the-limit", "2 2 0 0 0\n", "000000", MAX_TEXT),
         ("65536-tab-at-the-limit", "2 2 0 0 0 0\n", "\t", MAX_TEXT),
         ("65536-fewer-than-six-line-feed-last", "2 2 0 0 0", "\n", MAX_TEXT),
@@ -98,49 +93,6 @@ fn marks(plays: &mut Plays) {
         ("utf-16-mark-last", b"2 2 0 0 0 0\n\xfe\xff"),
         ("byte-255-alone", b"\xff"),
         ("byte-254-last-on-a-later-line", b"2 2 0 0 0 0\n\xfe"),
-    ] {
-        plays.text(format!("refused-1-{name}"), setup);
-    }
-}
-
-/// No-break spaces between numbers, one after the other, far on in a line, and beside other causes.
-fn no_break_spaces(plays: &mut Plays) {
-    each(
-        plays,
-        "refused-1-no-break-space",
-        [
-            ("alone", "\u{a0}"),
-            ("before-all", "\u{a0}2 2 0 0 0 0"),
-            ("between-numbers", "2\u{a0}2\u{a0}0 0 0 0\n"),
-            ("after-spaces", "2 2 0    \u{a0}0 0 0"),
-            ("on-a-line", "2 2 0\n\n  \u{a0}\n0 0 0\n"),
-            ("last", "2 2 0 0 0 0\u{a0}"),
-            ("twice", "2 2 0\n0\u{a0}\u{a0}0 0\n"),
-            ("at-column-10", "2 2 0 0 0\u{a0}0"),
-            ("at-column-14-of-a-later-line", "3 4 0 4 0 4\n0 0 1 1 1 1 1\u{a0}1\n"),
-            ("before-a-carriage-return", "2 2 0\u{a0}0 0 0\r\n"),
-            ("after-a-carriage-return", "2 2 0\r\n0\u{a0}0 0\r\n"),
-            ("after-a-comma", "2, 2,\u{a0}0 0 0 0"),
-            ("after-six-digits", "2 2 000000\n0\u{a0}0 0"),
-            ("and-fewer-than-six", "2 2 0\n0\u{a0}"),
-            ("and-more-than-said", "2 2 0 0 0 0\n0\u{a0}0"),
-        ],
-    );
-}
-
-/// One byte of a no-break space without the other.
-fn cut_no_break_spaces(plays: &mut Plays) {
-    for (name, setup) in [
-        ("byte-194-alone", &b"\xc2"[..]),
-        ("byte-194-last", b"2 2 0 0 0 0\n\xc2"),
-        ("byte-194-before-a-digit", b"2 2 0\xc20 0 0"),
-        ("byte-194-before-161", b"2 2 0\n\xc2\xa10 0 0"),
-        ("byte-194-before-a-no-break-space", b"2 2 0 0 0 0\n\xc2\xc2\xa0"),
-        ("no-break-space-parted", b"2 2 0\xc2\n\xa00 0 0"),
-        ("no-break-space-turned-round", b"2 2 0\xa0\xc20 0 0"),
-        ("byte-160-alone", b"\xa0"),
-        ("byte-160-between-numbers", b"2 2 0\n0\xa00\xa00"),
-        ("byte-195-before-160", b"2 2 0\xc3\xa00 0 0"),
     ] {
         plays.text(format!("refused-1-{name}"), setup);
     }

@@ -9,17 +9,12 @@ const MARK: &[u8] = &[239, 187, 191];
 const LITTLE: &[u8] = &[255, 254];
 const BIG: &[u8] = &[254, 255];
 
-/// The bytes of a no-break space.
-const NO_BREAK: &[u8] = &[194, 160];
-
 pub fn add(texts: &mut Texts) {
     byte_65537(texts);
     marks_across_the_limit(texts);
     before_the_limit(texts);
     wrong_bytes(texts);
     cut_marks(texts);
-    no_break_spaces(texts);
-    cut_no_break_spaces(texts);
     wide_texts(texts);
     several_bytes(texts);
     long_numbers(texts);
@@ -54,10 +49,6 @@ fn byte_65537(texts: &mut Texts) {
         ("65538-tab-behind", "2 1 0", "\n", "\t", more + 1),
         ("65540-tabs-before-and-behind", "\t2 1 0", " ", "0\t0", more + 3),
         ("65540-comma-behind", "2 1 0\n0", " ", "0, 0", more + 3),
-        ("65537-no-break-space-before", "2\u{a0}1 0", " ", "", more),
-        ("65539-no-break-spaces-before-on-a-line", "2 1 0\n\u{a0}\u{a0}", " ", "0", more + 2),
-        ("65537-no-break-space-across-the-limit", "2 1 0\n", " ", "\u{a0}", more),
-        ("65538-no-break-space-behind-the-limit", "2 1 0", "\n", "\u{a0}", more + 1),
         ("65537-six-digits-before", "2 1 000000", "\n", "0", more),
         ("65539-six-digits-across-the-limit", "2 1 0", " ", "000000", more + 2),
         ("65539-six-digits-across-on-a-later-line", "2 1 0\n", " ", "100000", more + 2),
@@ -82,22 +73,15 @@ fn before_the_limit(texts: &mut Texts) {
         ("six-digits-last-on-a-later-line", "2 1 0\n", "100000"),
         ("six-digits-and-a-line-feed-last", "2 1 0", "000000\n"),
         ("mark-last", "2 1 0", "\u{feff}"),
-        ("no-break-space-last", "2 1 0", "\u{a0}"),
         ("comma-last-on-a-later-line", "2 1 0\n", "0,"),
         ("two-numbers-line-feed-last", "2 1", "\n"),
     ] {
         let text = apart(before, " ", after, MAX_TEXT);
         texts.add(format!("refused-1-bytes-65536-{name}"), text);
     }
-    cut_by_the_end(texts, "mark", "2 1 0", "\u{feff}");
-    cut_by_the_end(texts, "no-break-space", "2 1 0\n", "\u{a0}");
-}
-
-/// A text of 65,536 bytes, without the last byte of what stands at its end.
-fn cut_by_the_end(texts: &mut Texts, name: &str, before: &str, last: &str) {
-    let mut text = apart(before, " ", last, MAX_TEXT + 1).into_bytes();
+    let mut text = apart("2 1 0", " ", "\u{feff}", MAX_TEXT + 1).into_bytes();
     text.truncate(MAX_TEXT);
-    texts.add(format!("refused-1-bytes-65536-{name}-cut-by-the-end"), text);
+    texts.add("refused-1-bytes-65536-mark-cut-by-the-end", text);
 }
 
 // ---- reason 1: the bytes ----
@@ -108,7 +92,6 @@ fn wrong_bytes(texts: &mut Texts) {
         ("mark", MARK),
         ("utf-16-mark", LITTLE),
         ("other-utf-16-mark", BIG),
-        ("no-break-space", NO_BREAK),
         ("lone-carriage-return", b"\r"),
         ("lone-tab", b"\t"),
         ("lone-comma", b","),
@@ -158,67 +141,6 @@ fn cut_marks(texts: &mut Texts) {
         ("twice-255", &[255, 255]),
         ("twice-254", &[254, 254]),
         ("255-then-a-utf-16-mark", &[255, 255, 254]),
-    ] {
-        texts.add(format!("refused-1-{name}"), text);
-    }
-}
-
-/// No-break spaces between numbers, one after the other, far on in a line, and beside other causes.
-fn no_break_spaces(texts: &mut Texts) {
-    each(
-        texts,
-        "refused-1-no-break-space",
-        [
-            ("alone", "\u{a0}"),
-            ("between-numbers", "2 1\u{a0}0 0 0\n"),
-            ("between-spaces", "2 1 0 \u{a0} 0\n"),
-            ("twice", "2 1 0\u{a0}\u{a0}0"),
-            ("twice-before-all", "\u{a0}\u{a0}2 1 0"),
-            ("twice-at-the-end", "2 1 0\n0\u{a0}\u{a0}"),
-            ("in-every-gap-of-a-later-line", "2 1 0\n0\u{a0}0\u{a0}0\n"),
-            ("at-column-9", "2 1 0 0 \u{a0}0"),
-            ("at-column-10", "2 1 0 0 0\u{a0}0"),
-            ("at-column-12-of-a-later-line", "2 1 0\n\n0 0 0 0 0 0\u{a0}0\n"),
-            ("before-a-carriage-return", "2 1 0\n0\u{a0}0\r\n"),
-            ("after-a-carriage-return", "2 1 0\r\n0\u{a0}0\r\n"),
-            ("and-carriage-return", "2 1 0\u{a0}\r\n"),
-            ("before-a-comma", "2\u{a0}1,0"),
-            ("after-a-comma", "2,\u{a0}1,\u{a0}0"),
-            ("before-a-mark", "\u{a0}\u{feff}2 1 0"),
-            ("after-a-mark", "\u{feff}\u{a0}2 1 0"),
-            ("after-six-digits", "2 1 000000\n0\u{a0}0"),
-            ("and-two-numbers", "2\u{a0}1"),
-            ("and-a-wrong-kind", "9\u{a0}99 9"),
-        ],
-    );
-    let turns = " 0".repeat(60);
-    let text = format!("2 1 0\n{turns}\u{a0}0\n");
-    texts.add("refused-1-no-break-space-at-column-121-of-a-later-line", text);
-}
-
-/// One byte of a no-break space without the other, and the bytes of other characters.
-fn cut_no_break_spaces(texts: &mut Texts) {
-    for (name, text) in [
-        ("byte-194-alone", &[194][..]),
-        ("byte-194-last", b"2 1 0\n0 \xc2"),
-        ("byte-194-before-a-digit", b"2 1 0\xc20"),
-        ("byte-194-before-a-line-feed", b"2 1 0\n0\xc2\n\xa0"),
-        ("no-break-space-parted", b"2 1 0\xc2 \xa00"),
-        ("no-break-space-turned-round", b"2 1 0\xa0\xc20"),
-        ("byte-194-before-159", b"2 1 0\n\xc2\x9f0"),
-        ("byte-194-before-161", b"2 1 0\n \xc2\xa10"),
-        ("byte-194-before-133", b"2 1 0\xc2\x850"),
-        ("byte-194-before-187-and-191", b"\xc2\xbb\xbf2 1 0"),
-        ("byte-194-before-194", b"2 1 0\xc2\xc2"),
-        ("byte-194-before-a-no-break-space", b"2 1 0\xc2\xc2\xa00"),
-        ("byte-160-alone", &[160]),
-        ("byte-160-between-numbers", b"2\xa01\xa00"),
-        ("byte-160-before-a-no-break-space", b"2 1 0\n\xa0\xc2\xa00"),
-        ("byte-160-last", b"2 1 0\n0\xa0"),
-        ("byte-193-before-160", b"2 1 0\xc1\xa00"),
-        ("byte-195-before-160", b"2 1 0\xc3\xa00"),
-        ("narrow-no-break-space", b"2 1 0\xe2\x80\xaf0"),
-        ("byte-239-before-160", b"\xef\xa02 1 0"),
     ] {
         texts.add(format!("refused-1-{name}"), text);
     }

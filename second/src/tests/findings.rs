@@ -61,8 +61,6 @@ fn longest_texts() {
     check_sheets(&[
         (1, &filled("2 1 0", 65_537), (1, 65_537), over),
         (1, &filled("2\t1", 99_999), (1, 65_537), over),
-        (1, &filled("2\u{a0}1 0", 65_537), (1, 65_537), over),
-        (1, &apart("2 1 0\n", " ", "\u{a0}", 65_537), (2, 65_531), over),
         (1, &filled("2 1 0\n\n0\n0", 65_537), (4, 65_528), over),
         (1, &apart("2 1 0", " ", "\n0", 65_537), (2, 1), over),
         (1, &apart("2 1 0\n", " ", "\n", 65_537), (2, 65_531), over),
@@ -75,7 +73,6 @@ fn longest_texts() {
         (1, &filled("2 2 0 0 0 0", 65_537), (1, 65_537), over),
         (1, &apart("2 2", " ", "0000000", 65_538), (1, 65_537), over),
         (1, &filled("2\n2\n0x\n", 65_540), (4, 65_530), over),
-        (1, &filled("2 2 0\n\u{a0}0 0 0", 65_538), (2, 65_531), over),
     ]);
 }
 
@@ -137,45 +134,6 @@ fn marks_and_several_bytes() {
         (b"000000 2 1\t0", "line 1, column 11", "a tab"),
         (b"000000\n\n2\n1\t0", "line 4, column 2", "a tab"),
         (b"9 9 x", "line 1, column 5", "the character 'x'"),
-    ]);
-}
-
-#[test]
-fn no_break_spaces() {
-    let what = "a no-break space";
-    check_bytes(&[
-        (b"\xc2\xa0", "line 1, column 1", what),
-        (b"\xc2\xa02 1 0", "line 1, column 1", what),
-        (b"2\xc2\xa01\xc2\xa00", "line 1, column 2", what),
-        (b"2 1 0\xc2\xa0", "line 1, column 6", what),
-        (b"2 1 0\n0 \xc2\xa0\xc2\xa00\n", "line 2, column 3", what),
-        (b"2 1 0 0 0\xc2\xa00", "line 1, column 10", what),
-        (b"2 1 0\n\n0 0 0 0 0 0\xc2\xa00\n", "line 3, column 12", what),
-        (b"2 1 0\xc2\xa00\r\n", "line 1, column 6", what),
-        (b"2 1 0\r\n0\xc2\xa00\r\n", "line 1, column 6", "a carriage return"),
-        (b"\xef\xbb\xbf\xc2\xa02 1 0", "line 1, column 1", "a byte-order mark"),
-        (b"000000 2 1\xc2\xa00", "line 1, column 11", what),
-        (b"\n9 9\xc2\xa0", "line 2, column 4", what),
-    ]);
-}
-
-/// Neither byte of a no-break space is one without the other right after or before it.
-#[test]
-fn cut_no_break_spaces() {
-    check_bytes(&[
-        (b"\xc2", "line 1, column 1", "the byte 194"),
-        (b"2 1 0\n0\xc2", "line 2, column 2", "the byte 194"),
-        (b"2 1 0\xc20", "line 1, column 6", "the byte 194"),
-        (b"2 1 0\xc2 \xa0", "line 1, column 6", "the byte 194"),
-        (b"2 1 0\n\xc2\n\xa0", "line 2, column 1", "the byte 194"),
-        (b"2 1 0\xc2\x9f", "line 1, column 6", "the byte 194"),
-        (b"2 1 0\xc2\xa1", "line 1, column 6", "the byte 194"),
-        (b"2 1 0\xc2\xc2\xa0", "line 1, column 6", "the byte 194"),
-        (b"\xa0", "line 1, column 1", "the byte 160"),
-        (b"2\xa01\xa00", "line 1, column 2", "the byte 160"),
-        (b"2 1 0\n\xa0\xc2\xa0", "line 2, column 1", "the byte 160"),
-        (b"2 1 0\xc3\xa0", "line 1, column 6", "the byte 195"),
-        (b"2 1 0\xe2\x80\xaf0", "line 1, column 6", "the byte 226"),
     ]);
 }
 
@@ -408,7 +366,6 @@ fn a_missing_row_is_told() {
     let findings: Vec<String> =
         texts.list().iter().filter_map(|(_, text)| of_sheet(text)).collect();
     for (words, row) in [
-        (" a no-break space", "1: a no-break space, which isn't a digit, a space or a line feed"),
         (" a comma", "1: a comma, which isn't a digit, a space or a line feed"),
         (" the byte ", "1: the byte #, which isn't a digit, a space or a line feed"),
         (" digits", "1: a number of # digits, which may have 5"),
