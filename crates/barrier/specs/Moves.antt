@@ -12,7 +12,7 @@ use Rattle.machine.specs.declared.Outcome.{Outcome}
 use Rattle.machine.specs.declared.Outcome.TheVariants.{Made, Refused}
 use Rattle.machine.specs.Setters.{task_at}
 use Rattle.machine.specs.Fresh.{Inputs, fresh_state}
-use Rattle.machine.specs.FreshLaws.{fresh_left}
+use Rattle.machine.specs.FreshLaws as laws
 use Rattle.machine.specs.Range.{Valid}
 use Rattle.machine.specs.Turn.{effect_of, turn_of}
 use Rattle.machine.specs.TurnLaws.{effect_rule, effect_keeps, turn_makes, refused_still, waited_tallied, moved_tallied, turn_constants, constants_written, own_field, other_field}
@@ -55,8 +55,8 @@ able_view s s' q k v a = (
 -- ---- the moves left
 
 -- a fresh state has them all
-pub fresh_all : (i : Inputs) → AllLeft (view_of (fresh_state i))
-fresh_all i q h off = fresh_left i q h
+pub fresh_left : (i : Inputs) → AllLeft (view_of (fresh_state i))
+fresh_left i q h off = laws.fresh_left i q h
 
 -- a move at 11 that does not stay there sets them back, and no other line changes them
 left_own : (s : State) (p : ℕ) → AllLeft (view_of s) → Able s p → (effect_of s p).task.line ≢ 11 → (effect_of s p).task.left ≡ (effect_of s p).task.work

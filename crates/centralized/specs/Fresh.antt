@@ -6,7 +6,7 @@ use Rattle.setup.specs.TablesLaws.{starts_given}
 use Rattle.setup.specs.ReasonsLaws.{counting_alike}
 use Rattle.machine.specs.Fresh.{Inputs, fresh_arrivals, fresh_reason, fresh_task, fresh_state}
 use Rattle.machine.specs.FreshLaws.{reason_parts, accepted_inputs, fresh_at, fresh_valid}
-use Rattle.barrier.specs.Moves.{fresh_all}
+use Rattle.barrier.specs.Moves.{fresh_left}
 use Rattle.increment.specs.Kept.{fresh}
 use Rattle.centralized.specs.Coupling.{Matching, Pair}
 
@@ -37,7 +37,7 @@ module _ (i₁ i₄ : Inputs) (e₁ : fresh_reason i₁ ≡ 0) (e₄ : fresh_rea
   pub fresh_pair : Pair (fresh_state i₁) (fresh_state i₄)
   fresh_pair =
       record {
-        first = record { valid = fresh_valid i₁ e₁; kind = k₁; inv = fresh i₁ e₁ k₁; left = fresh_all i₁ };
+        first = record { valid = fresh_valid i₁ e₁; kind = k₁; inv = fresh i₁ e₁ k₁; left = fresh_left i₁ };
         valid = fresh_valid i₄ e₄;
         kind = k₄;
         coupled = record {

@@ -22,7 +22,7 @@ pub traces : {s₁ s₄ : State} → Pair s₁ s₄ → (ts : List ℕ) → Trac
 traces {s₁} {s₄} pair [] = rw (trace_none s₁, trace_none s₄) (record { made = refl; stop = refl; pair = pair })
 traces {s₁} {s₄} pair (p ∷ ts) =
     let next = turns pair p in
-    rw (trace_turn s₁ p ts, trace_turn s₄ p ts, next.0) (go (turn_of s₄ p).outcome refl (traces next.1 ts))
+    rw (trace_turn s₁ p ts, trace_turn s₄ p ts, next.0) (go (turn_of s₄ p).outcome refl (traces {s₁ = (turn_of s₁ p).state} {s₄ = (turn_of s₄ p).state} next.1 ts))
   where
     go : (o : Outcome) → (turn_of s₄ p).outcome ≡ o → Traced (trace_of (turn_of s₁ p).state ts) (trace_of (turn_of s₄ p).state ts)
         → Traced (turned s₁ p o (trace_of (turn_of s₁ p).state ts)) (turned s₄ p o (trace_of (turn_of s₄ p).state ts))

@@ -1,10 +1,12 @@
 // The least of the tasks' counts, how many tasks stand at it, and what it becomes as a count rises. There is no machine in it. What each
 // function answers is defined in specs/Counts.antt, and every function is total.
+#![tactic(auto)]
+
 ghost use Rattle.std.specs.Prelude.{◌≡◌, ◌+◌, ◌<◌, ◌^◌, length, get_or};
 ghost use Rattle.counts.specs.Counts as defs;
 
 // The least count, and how many tasks stand at it.
-#[derive(Drop)]
+#[derive(Clone, Copy)]
 pub struct Least {
     pub count: u32,
     pub tasks: usize,

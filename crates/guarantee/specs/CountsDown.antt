@@ -155,8 +155,8 @@ module _ (i₁ i₄ : Inputs) (e₁ : fresh_reason i₁ ≡ 0) (e₄ : fresh_rea
   fresh_states : Pair (fresh_state i₁) (fresh_state i₄)
   fresh_states = fresh_pair i₁ i₄ e₁ e₄ k₁ k₄ n works
 
-  pub counts_down : (cs : List Call) → Down (fresh_of i₁).state (fresh_of i₄).state cs
-  counts_down cs =
+  pub counts_down_all : (cs : List Call) → Down (fresh_of i₁).state (fresh_of i₄).state cs
+  counts_down_all cs =
       let all = calls_same fresh_states cs in
       rw (fresh_accepted i₁ e₁, fresh_accepted i₄ e₄)
       (record { answered = all.answered; alike = pair_alike all.pair; ready = same_ready all.pair; promise = same_promise all.pair })
@@ -178,3 +178,9 @@ module _ (i₁ i₄ : Inputs) (e₁ : fresh_reason i₁ ≡ 0) (e₄ : fresh_rea
       go (no ne) =
           rw (play_refused i₁ trace (λ z. ne (sym why₁ ∙ z)), play_refused i₄ trace (λ z. ne (sym why₄ ∙ z)), why₁, why₄)
           (record { verdict = refl; alike = zeros_alike })
+
+-- equal answers, and states that show the same
+pub counts_down : (i₁ i₄ : Inputs) → fresh_reason i₁ ≡ 0 → fresh_reason i₄ ≡ 0 → i₁.kind ≡ 1 → i₄.kind ≡ 4 → i₁.n ≡ i₄.n → i₁.works ≡ i₄.works
+    → (cs : List Call)
+    → (answers (fresh_of i₁).state cs ≡ answers (fresh_of i₄).state cs) × Alike (after_all (fresh_of i₁).state cs) (after_all (fresh_of i₄).state cs)
+counts_down i₁ i₄ e₁ e₄ k₁ k₄ n works cs = let all = counts_down_all i₁ i₄ e₁ e₄ k₁ k₄ n works cs in (all.answered, all.alike)

@@ -51,7 +51,7 @@ turns_done s [] k r low room known = rw (trace_none s)
 turns_done s (p ∷ ts) k r low room known =
     rw (trace_turn s p ts)
     (go (turn_of s p).outcome
-    (turn_goes s p (reached_valid s r) first (omega (arith, here.count)) (omega (arith, here.moves)) (omega (arith, here.waits)) (reached_7 s p r))
+    (turn_goes s p (reached_valid s r) first (omega (arith, here.count)) (omega (arith, here.moves)) (omega (arith, here.waits)) (λ _. reached_7 s p r))
     (turns_done (turn_of s p).state ts (k + 1) (called s r (turn p))
     (λ q h. low_turn s p k q (low q (rw (turn_constants s p).n at h))) (omega arith)
     (λ i l. rw (turn_constants s p).n (known (suc i) (omega arith)))))

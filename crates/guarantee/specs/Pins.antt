@@ -34,7 +34,7 @@ use Rattle.runner.specs.Run.{run_reason, ending_reason, unstopped, ending_of, ru
 use Rattle.runner.specs.RunLaws.{run_accepts, run_refuses, run_not_11, Makes, all, stopped, run_makes}
 use Rattle.guarantee.specs.Calls.{turn, run, Call, after_all, counted, counted_all, Reached, fresh, called, promised_in}
 use Rattle.guarantee.specs.Answers.{answers}
-use Rattle.guarantee.specs.CountsDown.{counts_down}
+use Rattle.guarantee.specs.CountsDown.{counts_down_all}
 use Rattle.guarantee.specs.Guarantee.{guarantee}
 
 -- ---- reached: "if an accepted fresh state gave it, or if a turn or a run, refused or not, got a reached state and returned it"
@@ -222,7 +222,7 @@ module _ (i₁ i₄ : Inputs) (e₁ : fresh_reason i₁ ≡ 0) (e₄ : fresh_rea
   s₄ = (fresh_of i₄).state
 
   down : (cs : List Call) → answers s₁ cs ≡ answers s₄ cs
-  down cs = (counts_down i₁ i₄ e₁ e₄ k₁ k₄ n works cs).answered
+  down cs = (counts_down_all i₁ i₄ e₁ e₄ k₁ k₄ n works cs).answered
 
   -- the first call
   pub down_turn : (p : ℕ) → (turn_of s₁ p).outcome ≡ (turn_of s₄ p).outcome
@@ -243,7 +243,7 @@ module _ (i₁ i₄ : Inputs) (e₁ : fresh_reason i₁ ≡ 0) (e₄ : fresh_rea
   pub down_ready : (p : ℕ)
       → ((ready_of (turn_of s₁ p).state).ready ≡ (ready_of (turn_of s₄ p).state).ready) × (promised_in (turn_of s₁ p).state ≡ promised_in (turn_of s₄ p).state)
   unfolding after_all
-  down_ready p = let d = counts_down i₁ i₄ e₁ e₄ k₁ k₄ n works (turn p ∷ []) in (d.ready, d.promise)
+  down_ready p = let d = counts_down_all i₁ i₄ e₁ e₄ k₁ k₄ n works (turn p ∷ []) in (d.ready, d.promise)
 
   pub down_then_run : (p : ℕ) → RunsAlike (turn_of s₁ p).state (turn_of s₄ p).state
   unfolding answers

@@ -8,15 +8,16 @@ use Rattle.machine.specs.declared.State.{State}
 use Rattle.machine.specs.declared.Outcome.{Outcome}
 use Rattle.machine.specs.Setters.{task_at}
 use Rattle.machine.specs.Fresh.{Inputs, fresh_reason, fresh_state, fresh_of}
-use Rattle.machine.specs.FreshLaws.{accepted_inputs, fresh_accepted, fresh_line, fresh_left, fresh_valid}
+use Rattle.machine.specs.FreshLaws.{accepted_inputs, fresh_accepted, fresh_line, fresh_valid}
+use Rattle.machine.specs.FreshLaws as laws
 use Rattle.machine.specs.Range.{shared_of, Valid}
 use Rattle.machine.specs.Turn.{turn_of, reason_number}
 use Rattle.machine.specs.TurnLaws.{turn_constants, turn_work}
 use Rattle.machine.specs.KeepLaws.{turn_valid}
-use Rattle.machine.specs.RefusalLaws.{seven_arrives}
+use Rattle.machine.specs.RefusalLaws.{seven_arrived}
 use Rattle.barrier.specs.View.{view_of}
 use Rattle.barrier.specs.Barrier.{AllLeft, Holds}
-use Rattle.barrier.specs.Moves.{fresh_all, keeps_all}
+use Rattle.barrier.specs.Moves.{fresh_left, keeps_all}
 use Rattle.barrier.specs.Times.{times_at}
 use Rattle.barrier.specs.Work.{Stays, after_turns}
 use Rattle.barrier.specs.WorkLaws.{all_left, works}
@@ -49,7 +50,7 @@ known_led s s' ts l k = subst Known l.to (known_turns s ts k)
 
 known_fresh : (i : Inputs) → fresh_reason i ≡ 0 → i.kind ≤ 3 → Known (fresh_state i)
 known_fresh i e low =
-    record { kind = i.kind; low = low; inv = record { valid = fresh_valid i e; kind = refl; inv = (barrier_of i.kind low).fresh i e refl; left = fresh_all i } }
+    record { kind = i.kind; low = low; inv = record { valid = fresh_valid i e; kind = refl; inv = (barrier_of i.kind low).fresh i e refl; left = fresh_left i } }
 
 pub known_after : (s : State) (cs : List Call) → Known s → Known (after_all s cs)
 known_after s cs k = known_led s (after_all s cs) (counted_all s cs) (leads_all s cs) k
@@ -117,14 +118,19 @@ pub data Comes (p : ℕ) : State → Type 0 where
   back : (s : State) → Reached s → p < s.n → (task_at s p).line ≢ 11 → (q : ℕ) → (task_at (turn_of s q).state p).line ≡ 11 → Comes p (turn_of s q).state
 
 -- 02, P6: "A task stays at 11 until it has made that many moves there", as many as its work length: p comes to 11, and stays there for the turns ts
-pub reached_works : (p : ℕ) (s : State) → Comes p s → (ts : List ℕ) → Stays p s ts → times_at p 11 s ts ≡ (task_at s p).work
-reached_works p _ (first i e below) ts =
+pub comes_works : (p : ℕ) (s : State) → Comes p s → (ts : List ℕ) → Stays p s ts → times_at p 11 s ts ≡ (task_at s p).work
+comes_works p _ (first i e below) ts =
     subst (λ (s : State). Stays p s ts → times_at p 11 s ts ≡ (task_at s p).work) (sym (fresh_accepted i e))
-    (λ stays. (works (fresh_state i) (fresh_valid i e) p below (fresh_line i p below) ts stays).moves ∙ fresh_left i p below)
-reached_works p _ (back s r below away q at) ts = λ stays.
+    (λ stays. (works (fresh_state i) (fresh_valid i e) p below (fresh_line i p below) ts stays).moves ∙ laws.fresh_left i p below)
+comes_works p _ (back s r below away q at) ts = λ stays.
     let ok = reached_valid s r in
     let there = subst (λ (n : ℕ). p < n) (sym (turn_constants s q).n) below in
     (works (turn_of s q).state (turn_valid s q ok) p there at ts stays).moves ∙ all_left s p q ok (reached_left s r) below away ∙ sym (turn_work s q p)
+
+-- so after a turn, of any task, by which p comes to 11 in a reached state
+pub reached_works : (s : State) → Reached s → (p q : ℕ) → p < s.n → (task_at s p).line ≢ 11 → (task_at (turn_of s q).state p).line ≡ 11
+    → (ts : List ℕ) → Stays p (turn_of s q).state ts → times_at p 11 (turn_of s q).state ts ≡ (task_at s p).work
+reached_works s r p q below away at ts stays = comes_works p (turn_of s q).state (back s r below away q at) ts stays ∙ turn_work s q p
 
 -- 02, P4: so is the state that a play-back gives, unless it is refused; what is said of reached states holds of it
 pub played_reached : (i : Inputs) (trace : List ℕ) → play_reason i trace ≡ 0 → Reached (play_of i trace).state
@@ -143,9 +149,9 @@ known_7 s p k e = go k.kind k.low k.inv
     other n1 n4 (inr all) = n4 all.0
 
     go : (kind : ℕ) (h : kind ≤ 3) → Holds kind (barrier_of kind h).Inv s → ⊥
-    go zero h i = other (omega (arith, i.kind)) (omega (arith, i.kind)) (seven_arrives s p i.valid e)
+    go zero h i = other (omega (arith, i.kind)) (omega (arith, i.kind)) (seven_arrived s p i.valid e)
     go (suc zero) h i = never_7 s i p e
-    go (suc (suc kind)) h i = other (omega (arith, i.kind)) (omega (arith, i.kind)) (seven_arrives s p i.valid e)
+    go (suc (suc kind)) h i = other (omega (arith, i.kind)) (omega (arith, i.kind)) (seven_arrived s p i.valid e)
 
 -- 02, P7: nor to "a turn at 13 of kind 4 with arrivals 0"
 pub reached_7 : (s : State) (p : ℕ) → Reached s → reason_number (turn_of s p).outcome ≢ 7

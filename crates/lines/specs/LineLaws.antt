@@ -94,9 +94,18 @@ by_both P line u t n a₁ a₄ sense l11 l12 l13 l14 l15 l16 rest = at 11 l11 (a
 
 -- ---- what every line does
 
+-- the kinds whose tasks arrive by a shared number
+abbrev pub CountsArrivals : ℕ → Type 0
+CountsArrivals kind = (kind ≡ 1) ⊎ (kind ≡ 4)
+
 -- all tasks have arrived. 01, reason 7: "kind 1 with arrivals already N"; 02, P7: "kind 4 with arrivals 0"
 abbrev pub AllArrived : Shared → Type 0
 AllArrived s = ((s.kind ≡ 1) × (s.n ≤ s.arrivals)) ⊎ ((s.kind ≡ 4) × (s.arrivals ≡ 0))
+
+-- where they have, the kind is one of those
+pub arrived_counts : (s : Shared) → AllArrived s → CountsArrivals s.kind
+arrived_counts s (inl all) = inl all.0
+arrived_counts s (inr all) = inr all.0
 
 -- A line moves and keeps the count, moves at the counting line and raises it by one from below its limit, waits, or is refused: reason 7 at line 13 where all have arrived, and
 -- reason 11 at the counting line with the count at its limit. What waits or is refused leaves the task as it was and writes nothing.

@@ -48,6 +48,7 @@ fn line16(sense: u8, task: Task) -> Effect
 }
 
 // What the line does.
+#[tactic(auto, unfolding(crate::specs::Centralized::centralized_line))]
 pub fn line(line: u8, n: u8, arrivals: u8, sense: u8, task: Task) -> Effect
     ensures { result ≡ defs.centralized_line line n arrivals sense task }
 {

@@ -103,6 +103,7 @@ pub(crate) fn least(list: u64) -> u8
 }
 
 // The first task of a list at or above the start, going round, as a byte; 64 for the empty list.
+#[tactic(auto, using(bitset::specs::SetLaws::first_le))]
 pub(crate) fn first(list: u64, start: u8) -> u8
     ensures { result ≡ first_from list start }
 {

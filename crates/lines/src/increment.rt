@@ -49,6 +49,7 @@ fn line16(sense: u8, task: Task) -> Effect
 }
 
 // What the line does.
+#[tactic(auto, unfolding(crate::specs::Increment::increment_line))]
 pub fn line(line: u8, n: u8, arrivals: u8, sense: u8, task: Task) -> Effect
     ensures { result ≡ defs.increment_line line n arrivals sense task }
 {

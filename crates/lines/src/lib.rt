@@ -1,6 +1,8 @@
 // A task, and what each line of each barrier does to it: small values in, an effect out. What a line does is defined in specs/, and the
 // modules here follow its files: `common` (what the lines share), the five barriers, `rule` (which of them applies) and `words` (what is written).
 // Every function is total.
+#![tactic(auto)]
+
 pub mod centralized;
 mod common;
 pub mod increment;
@@ -16,7 +18,7 @@ pub const MAX_COUNT: u32 = 1_000_000;
 // A task of the barrier. Which fields a kind uses is said with their ranges, in setup's specs/Range.antt; the others are 0. The order of the
 // fields is chosen for the run: with a gap of 1 byte the compiler keeps a task in registers (5 would put it through memory), and in this order every
 // line is cheap enough to be inlined into the loop, which `bench/check` looks at. docs/changes/P6.md has what other orders cost.
-#[derive(Drop)]
+#[derive(Clone, Copy)]
 pub struct Task {
     pub aim: u8,
     pub toggle: u8,
@@ -34,7 +36,7 @@ pub struct Task {
 }
 
 // What a line may read besides tasks and parents: the kind, the number of tasks, and the words that all share.
-#[derive(Drop)]
+#[derive(Clone, Copy)]
 pub struct Shared {
     pub kind: u8,
     pub n: u8,
@@ -44,7 +46,7 @@ pub struct Shared {
 }
 
 // A line's own outcome: it is carried out, it awaits, or the number of the reason that refuses it.
-#[derive(Drop)]
+#[derive(Clone, Copy)]
 pub enum Act {
     Moves,
     Waits,
@@ -52,7 +54,7 @@ pub enum Act {
 }
 
 // What a line writes besides its own task: nothing, or one shared word. A toggle and a flag name their task.
-#[derive(Drop)]
+#[derive(Clone, Copy)]
 pub enum Write {
     Nothing,
     Arrivals(u8),
@@ -63,7 +65,7 @@ pub enum Write {
 
 // What a line does: its outcome, the task as it is then, and what is written elsewhere. Where it doesn't move, the task is as it was and
 // nothing is written, so that storing all of it is right for a wait too.
-#[derive(Drop)]
+#[derive(Clone, Copy)]
 pub struct Effect {
     pub act: Act,
     pub task: Task,

@@ -54,6 +54,7 @@ fn line15(n: u8, p: usize, mut task: Task) -> Effect
 }
 
 // What the line does.
+#[tactic(auto, unfolding(crate::specs::Ring::ring_line))]
 pub fn line(line: u8, n: u8, p: usize, task: Task) -> Effect
     ensures { result ≡ defs.ring_line line n p task }
 {

@@ -41,6 +41,7 @@ fn line14(tag: u8, task: Task) -> Effect
 }
 
 // What the line does. `tag` is that of the looked-at task.
+#[tactic(auto, unfolding(crate::specs::Symmetric::symmetric_line))]
 pub fn line(line: u8, n: u8, modulus: u8, tag: u8, task: Task) -> Effect
     ensures { result ≡ defs.symmetric_line line n modulus tag task }
 {

@@ -82,6 +82,7 @@ fn line18(mut task: Task) -> Effect
 }
 
 // What the lines 11 to 13 do.
+#[tactic(auto, unfolding(crate::specs::Tree::tree_gather))]
 pub fn gather(line: u8, table: &[u8], p: usize, task: Task) -> Effect
     ensures { result ≡ defs.tree_gather line table.now p task }
 {
@@ -94,6 +95,7 @@ pub fn gather(line: u8, table: &[u8], p: usize, task: Task) -> Effect
 }
 
 // What the lines 14 to 16 do. `flag` is that of the looked-at task.
+#[tactic(auto, unfolding(crate::specs::Tree::tree_meet))]
 pub fn meet(line: u8, p: usize, flag: u8, task: Task) -> Effect
     ensures { result ≡ defs.tree_meet line p flag task }
 {
@@ -106,6 +108,7 @@ pub fn meet(line: u8, p: usize, flag: u8, task: Task) -> Effect
 }
 
 // What the lines 17 and 18 do.
+#[tactic(auto, unfolding(crate::specs::Tree::tree_release))]
 pub fn release(line: u8, table: &[u8], p: usize, task: Task) -> Effect
     ensures { result ≡ defs.tree_release line table.now p task }
 {

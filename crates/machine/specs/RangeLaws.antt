@@ -113,6 +113,10 @@ pub check_not : (s : State) (k : ℕ) → k ≢ 0 → k ≢ 7 → check_state s 
 unfolding check_state
 check_not s k n0 n7 = by_test (λ (x : ℕ). x ≢ k) (state_ok s) (λ _ e. n0 (sym e)) (λ _ e. n7 (sym e))
 
+-- so it is no 9, and a run's answer to it has no place
+pub check_not_9 : (s : State) → check_state s ≢ 9
+check_not_9 s = check_not s 9 (omega arith) (omega arith)
+
 -- a task of 0 to N − 1 stands in the list of tasks: its line is not 0
 pub present : (s : State) (q : ℕ) → 11 ≤ (task_at s q).line → q < length s.tasks
 present s q h = lt_of_not-le (λ l. absurd (omega (arith, ap (λ (t : Task). t.line) (get_or-eq_default s.tasks zero_task {n = q} l))))

@@ -7,7 +7,7 @@ use Rattle.lines.specs.declared.Act.{Act}
 use Rattle.lines.specs.declared.Act.TheVariants.{Moves, Waits, Refuses}
 use Rattle.lines.specs.Common.{max_count}
 use Rattle.lines.specs.Rule.{counting_line}
-use Rattle.lines.specs.LineLaws.{AllArrived, Does, keeps, raises, stays, refused_7, refused_11}
+use Rattle.lines.specs.LineLaws.{CountsArrivals, AllArrived, arrived_counts, Does, keeps, raises, stays, refused_7, refused_11}
 use Rattle.machine.specs.declared.State.{State}
 use Rattle.machine.specs.declared.Outcome.{Outcome}
 use Rattle.machine.specs.declared.Outcome.TheVariants.{Made, Refused}
@@ -84,11 +84,11 @@ never_0 s p = split (ℕ_discrete (check_state s) 0) (dec_lt p s.n)
 
 -- so it goes where none of them applies
 pub turn_goes : (s : State) (p : ℕ) → Valid s → p < s.n → (task_at s p).count < max_count → moves_at s p < max_tally → waits_at s p < max_tally
-    → reason_number (turn_of s p).outcome ≢ 7 → Goes (turn_of s p).outcome
+    → (CountsArrivals s.kind → reason_number (turn_of s p).outcome ≢ 7) → Goes (turn_of s p).outcome
 turn_goes s p ok h low room_m room_w none = go (turn_of s p).outcome refl
   where
     because : {k : ℕ} → Why s p k → (turn_of s p).outcome ≡ Refused k → ⊥
-    because (seven l all) e = none (ap reason_number e)
+    because (seven l all) e = none (arrived_counts (shared_of s) all) (ap reason_number e)
     because (eleven l c) e = omega arith
     because (thirteen_moves a m) e = omega arith
     because (thirteen_waits a w) e = omega arith
@@ -110,8 +110,8 @@ seven_acts s p ok h = go (turn_of s p).outcome refl
     go (Refused k) e z = line k z (refusal_acts s p k ok h e)
 
 -- and so all have arrived
-pub seven_arrives : (s : State) (p : ℕ) → Valid s → reason_number (turn_of s p).outcome ≡ 7 → AllArrived (shared_of s)
-seven_arrives s p ok = split (dec_lt p s.n)
+pub seven_arrived : (s : State) (p : ℕ) → Valid s → reason_number (turn_of s p).outcome ≡ 7 → AllArrived (shared_of s)
+seven_arrived s p ok = split (dec_lt p s.n)
   where
     all : (k : ℕ) → k ≡ 7 → Why s p k → AllArrived (shared_of s)
     all _ e (seven l arrived) = arrived
@@ -122,6 +122,10 @@ seven_arrives s p ok = split (dec_lt p s.n)
     split : Dec (p < s.n) → reason_number (turn_of s p).outcome ≡ 7 → AllArrived (shared_of s)
     split (yes h) = λ e. all 7 refl (line_why s p ok h 7 (seven_acts s p ok h e))
     split (no h) = rw (turn_unknown s p ok (omega arith)) (λ e. absurd (omega arith))
+
+-- which happens in the kinds 1 and 4 alone
+pub seven_arrives : (s : State) (p : ℕ) → Valid s → reason_number (turn_of s p).outcome ≡ 7 → CountsArrivals s.kind
+seven_arrives s p ok e = arrived_counts (shared_of s) (seven_arrived s p ok e)
 
 -- 13: a move meets it where its task's tally of moves is at the limit, a wait where its tally of waits is, and neither for the other
 pub turn_13 : (s : State) (p : ℕ) → Valid s → p < s.n → (turn_of s p).outcome ≡ Refused 13

@@ -1,5 +1,7 @@
 // The numbers that a program outside is told an answer by: of each enum its reason, 0 where nothing was refused, and what else it carries. The
 // definitions stand with the enums, or in specs/Numbers.antt.
+#![tactic(auto)]
+
 ghost use Rattle.std.specs.Prelude.{◌≡◌};
 ghost use Rattle.machine.specs.Turn.{closed_number};
 ghost use Rattle.machine.specs.Ready.{ready_reason, ready_number};

@@ -1,12 +1,14 @@
 // Parent tables of the tree barrier: their check, the children of a task, and the four shapes. What each function answers is
 // defined in specs/Parents.antt and specs/Shapes.antt.
+#![tactic(auto)]
+
 ghost use Rattle.std.specs.Prelude.{◌≡◌, ◌≤◌, ◌++◌, eqb, ltb, length, drop};
 ghost use Rattle.bitset.specs.Choice.{pick};
 ghost use Rattle.parents.specs.Parents.{check_number, check_of, children_of};
 ghost use Rattle.parents.specs.Shapes.{shape_parent, shape_table, shape_number, shape_of, table_after};
 
 // What the check of a table answers. specs/Parents.antt gives the numbers: 0, 5, 6.
-#[derive(Drop)]
+#[derive(Clone, Copy)]
 pub enum Checked {
     Accepted,
     WrongLength,
@@ -56,7 +58,7 @@ pub fn children(table: &[u8], task: usize) -> u64
 }
 
 // What writing a shape answers. specs/Shapes.antt gives the numbers: 0, 2, 3, 10.
-#[derive(Drop)]
+#[derive(Clone, Copy)]
 pub enum Shaped {
     Written,
     UnknownShape,

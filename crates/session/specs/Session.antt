@@ -26,6 +26,11 @@ list_after list (turn p) = (turn_told list p).list
 list_after list (resume schedule allowance log tasks) = (resume_told list schedule allowance log tasks).list
 list_after list (rows schedule allowance log numbers) = (rows_told list schedule allowance log numbers).list
 
+-- and after several, each of which is lent the list that the one before it left
+unfoldable pub list_after_all : List ℕ → List Step → List ℕ
+list_after_all list [] = list
+list_after_all list (c ∷ cs) = list_after_all (list_after list c) cs
+
 -- A call, and what stands beyond the state's 1,029 numbers in the list that is lent to it: the caller may lend a longer or a shorter one each time, as long as it begins with the
 -- numbers that the last call left.
 pub record Visit : Type 0 where
@@ -35,9 +40,9 @@ pub record Visit : Type 0 where
 abbrev pub lent : List ℕ → Visit → List ℕ
 lent list v = take size list ++ v.beyond
 
-unfoldable pub list_after_all : List ℕ → List Visit → List ℕ
-list_after_all list [] = list
-list_after_all list (v ∷ vs) = list_after_all (list_after (lent list v) v.step) vs
+unfoldable pub list_after_visits : List ℕ → List Visit → List ℕ
+list_after_visits list [] = list
+list_after_visits list (v ∷ vs) = list_after_visits (list_after (lent list v) v.step) vs
 
 -- ---- the state
 
@@ -47,9 +52,13 @@ state_after s (turn p) = (turn_of s p).state
 state_after s (resume schedule allowance log tasks) = pick (task_room s (length tasks)) (run_of s schedule allowance log).state s
 state_after s (rows schedule allowance log numbers) = pick (turn_room schedule allowance (length numbers)) (run_of s schedule allowance log).state s
 
-unfoldable pub state_after_all : State → List Visit → State
+unfoldable pub state_after_all : State → List Step → State
 state_after_all s [] = s
-state_after_all s (v ∷ vs) = state_after_all (state_after s v.step) vs
+state_after_all s (c ∷ cs) = state_after_all (state_after s c) cs
+
+unfoldable pub state_after_visits : State → List Visit → State
+state_after_visits s [] = s
+state_after_visits s (v ∷ vs) = state_after_visits (state_after s v.step) vs
 
 -- a list keeps a state: it has room for one, and that one is loaded from it
 pub record Keeps (list : List ℕ) (s : State) : Type 0 where

@@ -41,7 +41,7 @@ use Rattle.guarantee.specs.Pins.{all_none, all_turn, all_run, counted_none, coun
 use Rattle.tungwaff.specs.Entry.{fresh_into, fresh_list, kept_in, kept_after, turned_from, turn_list, numbers_of, turn_told, resume_told, rows_told, ready_told, kept_verdict, kept_played}
 use Rattle.tungwaff.specs.EntryLaws.{turned_kept, ready_kept_lem, tasks_kept, rows_kept, tasks_left, rows_left, kept_refused, kept_made, turn_refused, turn_made, fresh_made, played_made}
 use Rattle.session.specs.Session as words
-use Rattle.session.specs.Session.{Step, turn, resume, rows, Visit, lent, list_after, list_after_all, state_after, state_after_all, Keeps, least_in, Answer, answer, answers, answer_in, answers_in, counted_turns, counted_by, counted_by_all, call_of, calls_of}
+use Rattle.session.specs.Session.{Step, turn, resume, rows, Visit, lent, list_after, list_after_all, list_after_visits, state_after, state_after_all, state_after_visits, Keeps, least_in, Answer, answer, answers, answer_in, answers_in, counted_turns, counted_by, counted_by_all, call_of, calls_of}
 use Rattle.session.specs.Bytes.{reached_sized}
 
 -- runs that are equal, with what they leave, answer alike
@@ -183,6 +183,12 @@ pub record Session (list : List ℕ) (s : State) : Type 0 where
   pub keeps : Keeps list s
   pub reached : Reached s
 
+pub calls_keep : (list : List ℕ) (s : State) → Session list s → (cs : List Step) → Session (list_after_all list cs) (state_after_all s cs)
+unfolding list_after_all state_after_all
+calls_keep list s h [] = h
+calls_keep list s h (c ∷ cs) =
+    calls_keep (list_after list c) (state_after s c) (record { keeps = step_keeps list s h.keeps h.reached c; reached = step_reached s h.reached c }) cs
+
 -- the least count in a list is that of the state that it keeps
 least_kept : {list : List ℕ} {s : State} → Keeps list s → least_in list ≡ least s
 least_kept k = ap (λ (l : Loaded). least l.state) k.loaded
@@ -197,10 +203,10 @@ lent_keeps list s v k =
 
 -- a list that keeps a state, after some calls: what it keeps, what they have answered, and the same calls as demand 3 has them
 record Led (list : List ℕ) (s : State) (vs : List Visit) : Type 0 where
-  kept : Session (list_after_all list vs) (state_after_all s vs)
+  kept : Session (list_after_visits list vs) (state_after_visits s vs)
   answered : answers list vs ≡ answers_in s vs
   counting : counted_by_all list vs ≡ counted_all s (calls_of s vs)
-  called_to : after_all s (calls_of s vs) ≡ state_after_all s vs
+  called_to : after_all s (calls_of s vs) ≡ state_after_visits s vs
 
 -- one call, and then others
 module _ (list : List ℕ) (s : State) (h : Session list s) (v : Visit) where
@@ -220,7 +226,7 @@ module _ (list : List ℕ) (s : State) (h : Session list s) (v : Visit) where
   goes_on_lem = record { keeps = step_keeps here s keeps h.reached v.step; reached = step_reached s h.reached v.step }
 
   led_by_one : (vs : List Visit) → Led next s' vs → Led list s (v ∷ vs)
-  unfolding list_after_all state_after_all answers answers_in counted_by_all calls_of
+  unfolding list_after_visits state_after_visits answers answers_in counted_by_all calls_of
   led_by_one vs rest =
       let call = call_of s v.step in
       let more = calls_of s' vs in
@@ -237,7 +243,7 @@ module _ (list : List ℕ) (s : State) (h : Session list s) (v : Visit) where
       }
 
 leads : (list : List ℕ) (s : State) → Session list s → (vs : List Visit) → Led list s vs
-unfolding list_after_all state_after_all answers answers_in counted_by_all calls_of
+unfolding list_after_visits state_after_visits answers answers_in counted_by_all calls_of
 leads list s h [] = record { kept = h; answered = refl; counting = sym (counted_none s); called_to = all_none s }
 leads list s h (v ∷ vs) = led_by_one list s h v vs (leads (next list s h v) (s' list s h v) (goes_on_lem list s h v) vs)
 
@@ -255,20 +261,20 @@ module _ (i : Inputs) (list : List ℕ) (e : fresh_into i list ≡ 0) where
       record { keeps = subst (λ (l : List ℕ). Keeps l (fresh_of i).state) (sym made.2) (saved_keeps list (fresh_of i).state room r); reached = r }
 
   -- after every list of calls the list keeps the state that the same calls lead to from the fresh state, which is a reached one: demand 3 speaks of it
-  pub session : (vs : List Visit) → Session (list_after_all first vs) (state_after_all (fresh_of i).state vs)
-  session vs = (leads first (fresh_of i).state begins vs).kept
+  pub session_visits : (vs : List Visit) → Session (list_after_visits first vs) (state_after_visits (fresh_of i).state vs)
+  session_visits vs = (leads first (fresh_of i).state begins vs).kept
 
   -- and each call has answered what that of the library answers in the state that was kept
   pub session_answers : (vs : List Visit) → answers first vs ≡ answers_in (fresh_of i).state vs
   session_answers vs = (leads first (fresh_of i).state begins vs).answered
 
   -- so after any calls, as many passes as `limit` tells, of turns that count by the answers' numbers, raise the least count in the list
-  pub session_raises : (before vs : List Visit) → (let l = list_after_all first before in
-      least_in l < 1000000 → CutInto i.n (limit_of i.kind i.n i.works).passes (counted_by_all l vs) → least_in l < least_in (list_after_all l vs))
+  pub session_raises : (before vs : List Visit) → (let l = list_after_visits first before in
+      least_in l < 1000000 → CutInto i.n (limit_of i.kind i.n i.works).passes (counted_by_all l vs) → least_in l < least_in (list_after_visits l vs))
   session_raises before vs =
       let one = leads first (fresh_of i).state begins before in
-      let s = state_after_all (fresh_of i).state before in
-      let two = leads (list_after_all first before) s one.kept vs in
+      let s = state_after_visits (fresh_of i).state before in
+      let two = leads (list_after_visits first before) s one.kept vs in
       let here = least_kept one.kept.keeps in
       let there = least_kept two.kept.keeps in
       let n : s.n ≡ i.n = ap (λ (x : State). x.n) (sym one.called_to) ∙ calls_n (fresh_of i).state (calls_of (fresh_of i).state before) ∙ ap (λ (x : State). x.n) (fresh_accepted i accepted) in
@@ -286,11 +292,15 @@ module _ (i : Inputs) (list : List ℕ) (e : fresh_into i list ≡ 0) where
       Raises : State → List Visit → Type 0
       Raises s vs = RaisesFrom s (calls_of s vs)
 
+-- and where each call is lent the whole list that the one before it left
+pub session : (i : Inputs) (list : List ℕ) → fresh_into i list ≡ 0 → (cs : List Step) → Session (list_after_all (fresh_list i list) cs) (state_after_all (fresh_of i).state cs)
+session i list e cs = calls_keep (fresh_list i list) (fresh_of i).state (begins i list e) cs
+
 -- ---- from a play-back whose state was written to a list
 
 -- so the session may go on from there: 02, P4's end state, or the one before the triple that differs
 pub played_session : (i : Inputs) (trace list : List ℕ) → verdict_reason (kept_verdict (play_of i trace) list) ≡ 0
-    → (vs : List Visit) → Session (list_after_all (kept_played (play_of i trace) list) vs) (state_after_all (play_of i trace).state vs)
+    → (vs : List Visit) → Session (list_after_visits (kept_played (play_of i trace) list) vs) (state_after_visits (play_of i trace).state vs)
 played_session i trace list e vs =
     let made = played_made (play_of i trace) list e in
     let r = played_reached i trace (play_unrefused i trace made.0) in

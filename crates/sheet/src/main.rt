@@ -1,23 +1,24 @@
 // The sheet program: reads a text from standard input, and writes what sheet_text makes of it. It reads one byte past the limit of
 // 65,536, so that a longer text is refused and not cut.
-use input::Got;
-use libc::{STDERR_FILENO, STDIN_FILENO, STDOUT_FILENO};
+#![tactic(auto)]
 
-// Says on standard error what went wrong.
-fn say(message: &[u8]) {
-    io::write_all(STDERR_FILENO, message);
+use input::Got;
+
+// Says on standard error what went wrong. Where that cannot be written there is nobody to tell.
+fn say(rt: &impl Eprint, message: &str) {
+    let _ = rt.eprint(message);
 }
 
-fn main() {
+fn main(rt: HostRuntime) {
     let mut text = [0u8; 65537];
-    let Got::Bytes(n) = input::read_all(STDIN_FILENO, &mut text) else {
-        say(b"sheet: standard input cannot be read\n");
+    let Got::Bytes(n) = input::read_all(&mut rt.stdin(), &mut text) else {
+        say(&rt, "sheet: standard input cannot be read\n");
         return;
     };
     let page = sheet_text::sheet(&text[..n]);
     let bytes = page.bytes;
     let len = page.len;
-    if !io::write_all(STDOUT_FILENO, &bytes[..len]) {
-        say(b"sheet: standard output cannot be written\n");
+    if rt.write_all(&bytes[..len]).is_err() {
+        say(&rt, "sheet: standard output cannot be written\n");
     }
 }
