@@ -1,4 +1,6 @@
 // The bound of demand 3: how many passes, each of which names every task, surely raise the least count. specs/Bound.antt defines it.
+#![tactic(auto)]
+
 ghost use Rattle.std.specs.Prelude.{◌≡◌, ◌≤◌};
 ghost use Rattle.bitset.specs.Sum.{sum};
 ghost use Rattle.setup.specs.Kinds.{last_kind};
@@ -8,7 +10,7 @@ ghost use Rattle.bound.specs.Bound as defs;
 use setup::{reasons, tables};
 
 // What `limit` answers: 0 and the passes, or the reason that refused the call and 0.
-#[derive(Drop)]
+#[derive(Clone, Copy)]
 pub struct Promised {
     pub reason: u8,
     pub passes: usize,

@@ -1,26 +1,9 @@
--- Arrays: that a state's parents and tallies have 64 entries, and how a loop fills an array from the front.
-use mathlib.Core.Path.{◌≡◌, sym, ap, ◌∙◌}
-use mathlib.Core.List.{List, [], ◌∷◌, ◌++◌}
-use Prim.Native.Nat.{ℕ, suc, ◌+◌, ◌-◌, ◌≤◌, ◌<◌, min}
-use native.Mathlib.Decide.{dec_lt}
-use native.Mathlib.Omega.{arith}
-use lib.ListN.{length, take, drop, set, replicate, length-map, drop_of_length-le}
-use lib.Seq.{take_all, set_at, append_snoc}
-use mir.Val.{Val}
-use denote.Laws.{Is}
-use Rattle.machine.specs.declared.State.{State}
-use Rattle.machine.specs.contracts.State.{the_row}
-
--- what owning a state tells of its parents' length
-pub parents_64 : (s : State) (vs : List Val) → Is the_row s vs → length s.parents ≡ 64
-parents_64 s vs good = sym (length-map s.parents _) ∙ good.1.1.1.1.1.1.1.0.1.0.1
-
--- and of its tallies
-pub moves_64 : (s : State) (vs : List Val) → Is the_row s vs → length s.moves ≡ 64
-moves_64 s vs good = sym (length-map s.moves _) ∙ good.1.1.1.1.1.1.1.1.0.1.0.1
-
-pub waits_64 : (s : State) (vs : List Val) → Is the_row s vs → length s.waits ≡ 64
-waits_64 s vs good = sym (length-map s.waits _) ∙ good.1.1.1.1.1.1.1.1.1.0.1.0.1
+-- Arrays: the first n entries of a state's 64, and how a loop fills an array from the front.
+use Rattle.std.proofs.Common.{◌≡◌, sym, ap, ◌∙◌, List, [], ◌∷◌, ◌++◌, ℕ, suc, ◌+◌, ◌-◌, ◌≤◌, ◌<◌, min, length, take, drop, set, replicate, arith}
+use Rattle.std.proofs.Math.Decide.{dec_lt}
+use Rattle.std.proofs.Math.ListN.{drop_of_length-le}
+use Rattle.std.proofs.Math.Seq.{append_snoc}
+use Rattle.std.proofs.lemmas.List.{take_all, set_at}
 
 -- at most the 64 entries are the table
 at_most : (f : ℕ → List ℕ) (n : ℕ) → (64 ≤ n → f 64 ≡ f n) → f (min n 64) ≡ f n

@@ -1,7 +1,6 @@
 -- Rounds (02, P2): what a turn makes of the counts, and so of the least count.
 use Rattle.std.specs.Prelude.{◌≡◌, refl, List, ◌≢◌, ℕ, ◌+◌, ◌≤◌, ◌<◌, ltb, length, get_or, take}
-use Rattle.std.proofs.Common.{sym, ap, ◌∙◌, ltb-true, ltb-false}
-use native.Mathlib.Omega.{arith}
+use Rattle.std.proofs.Common.{sym, ap, ◌∙◌, ltb-true, ltb-false, arith}
 use Rattle.bitset.specs.ChoiceLaws.{by_test}
 use Rattle.bitset.specs.TableLaws.{length_table}
 use Rattle.counts.specs.Counts.{least_among, closes_of}

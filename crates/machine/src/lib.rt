@@ -2,6 +2,8 @@
 // checks ranges; what a line does is the crate `lines`, and what refuses a setup and a task's range are the crate `setup`. What each call answers
 // is defined in specs/, and the modules here follow its files: `initial` (Fresh), `range`, `rounds` (Least), `turn`, `able` (Ready). Every public
 // function is total, and its contract is an equation with its definition.
+#![tactic(auto)]
+
 mod able;
 mod initial;
 mod range;
@@ -15,7 +17,7 @@ pub const MAX_TALLY: u32 = 4_000_000_000;
 
 // A barrier: its kind, its n tasks, the words that they share, for a tree the table of parents, and how often each task has moved and waited
 // since the fresh state. Tasks, parents and tallies from n on are 0.
-#[derive(Drop)]
+#[derive(Clone, Copy)]
 pub struct State {
     pub kind: u8,
     pub n: u8,
@@ -29,28 +31,28 @@ pub struct State {
 }
 
 // What a turn that is not refused did. A move carries 1 if it closed a round, that is if the least count rose in that turn, else 0.
-#[derive(Drop)]
+#[derive(Clone, Copy)]
 pub enum Move {
     Moved(u8),
     Waited,
 }
 
 // What a turn answers: what it did, or the number of the reason that refused it.
-#[derive(Drop)]
+#[derive(Clone, Copy)]
 pub enum Outcome {
     Made(Move),
     Refused(u8),
 }
 
 // A turn's answer, with the state after it.
-#[derive(Drop)]
+#[derive(Clone, Copy)]
 pub struct Turned {
     pub state: State,
     pub outcome: Outcome,
 }
 
 // What a fresh state is made from, besides its tables. Numbers out of range are refused, so they must fit here.
-#[derive(Drop)]
+#[derive(Clone, Copy)]
 pub struct Setup {
     pub kind: usize,
     pub n: usize,
@@ -58,14 +60,14 @@ pub struct Setup {
 }
 
 // A fresh state's answer: the state, and 0 or the reason it was refused.
-#[derive(Drop)]
+#[derive(Clone, Copy)]
 pub struct Fresh {
     pub state: State,
     pub reason: u8,
 }
 
 // Who can move: the least such task, or nobody; or the number of the reason that refused the state.
-#[derive(Drop)]
+#[derive(Clone, Copy)]
 pub enum Ready {
     Task(usize),
     Nobody,
@@ -73,7 +75,7 @@ pub enum Ready {
 }
 
 // Ready's answer, with the state as it was.
-#[derive(Drop)]
+#[derive(Clone, Copy)]
 pub struct Readied {
     pub state: State,
     pub ready: Ready,

@@ -1,5 +1,7 @@
 // Play-back: from a fresh state, a trace that the watch wrote is held against the defined turns. What is answered is defined in
 // specs/Playback.antt. It is made from runs and their logs, so that no state is copied for a turn.
+#![tactic(auto)]
+
 ghost use Rattle.std.specs.Prelude.{◌≡◌, ◌*◌, ◌%◌, ◌≤◌, length, take};
 ghost use Rattle.machine.specs.Fresh.{inputs_of};
 ghost use Rattle.machine.specs.Range.{Valid};

@@ -1,5 +1,7 @@
 // Play-back from a setup text and a trace's bytes: from both to what is printed. What a setup says is defined in specs/Setup.antt, and what is
 // printed in specs/Answer.antt.
+#![tactic(auto)]
+
 ghost use Rattle.std.specs.Prelude.{◌≡◌, ◌≤◌, ◌<◌, length, get_or, take, drop};
 ghost use Rattle.text.specs.Page.{Prints};
 ghost use Rattle.machine.specs.Setters.{task_at};
@@ -16,7 +18,7 @@ use text::print;
 use text::read::Found;
 
 // What is printed, with zeros after it: the bytes of the verdict's line, and those of both lines.
-#[derive(Drop)]
+#[derive(Clone, Copy)]
 pub struct Printed {
     pub bytes: [u8; 128],
     pub verdict: usize,

@@ -1,5 +1,7 @@
 // The reader of a sheet's text: from its bytes to kind, N, R, parents and schedule in lent buffers, or the refusal. What it answers is defined
 // in specs/Read.antt.
+#![tactic(auto)]
+
 ghost use Rattle.std.specs.Prelude.{◌≡◌, [], map, ◌+◌, min, ◌≤◌, length, take, drop};
 ghost use Rattle.text.specs.Numbers.{low, over};
 ghost use Rattle.machine.specs.Fresh.{inputs_of};
@@ -10,7 +12,7 @@ use text::read::Found;
 
 // What a text says: the reason that refuses it, 0 if none does, and for reason 9 the place; kind, N, R, and how many parents and turns there
 // are, 0 where it is refused.
-#[derive(Drop)]
+#[derive(Clone, Copy)]
 pub struct Said {
     pub reason: u8,
     pub place: usize,

@@ -1,5 +1,7 @@
 // The numbers of a run, written to a lent list: six of each turn that it made, or four of each task at its end. They are made from the
 // schedule and the log of one run, so that no turn is made twice. What each call answers and writes is defined in specs/Rows.antt.
+#![tactic(auto)]
+
 ghost use Rattle.std.specs.Prelude.{◌≡◌, ◌∷◌, ◌++◌, false, ℕ, ◌*◌, ◌≤◌, length, get_or, drop};
 ghost use Rattle.machine.specs.Range.{Valid};
 ghost use Rattle.runner.specs.Trace.{nothing, trace_of};

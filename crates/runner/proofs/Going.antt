@@ -177,6 +177,10 @@ pub record Next (s : State) (schedule log₀ : List ℕ) (i : ℕ) (state : Stat
   pub all : all_tasks s.n schedule ≡ true
   pub less : i < length schedule
 
+pub next_of : {s : State} {schedule log₀ : List ℕ} {i : ℕ} {state : State} {held : Held} {log : List ℕ} → Going s schedule log₀ i state held log
+    → all_tasks s.n schedule ≡ true → i < length schedule → Next s schedule log₀ i state held log
+next_of g all less = record { going = g; all = all; less = less }
+
 module _ {s : State} {schedule log₀ : List ℕ} {i : ℕ} {state : State} {held : Held} {log : List ℕ} (next : Next s schedule log₀ i state held log) where
   abbrev g : Going s schedule log₀ i state held log
   g = next.going

@@ -1,4 +1,6 @@
 // The run of a schedule: the only loop over turns. What it answers, and what it writes to the log, is defined in specs/Run.antt.
+#![tactic(auto)]
+
 mod dispatch;
 
 ghost use Rattle.std.specs.Prelude.{◌≡◌, true, ◌*◌, ◌≤◌, ◌<◌, length, get_or, take, set};
@@ -17,7 +19,7 @@ use machine::{Outcome, State};
 
 // How a run ended: all turns done; the allowance spent, with turns left; a turn refused, with its reason; or the whole run refused, with
 // its reason, and the place of the first turn that is no task for reason 9, else 0.
-#[derive(Drop)]
+#[derive(Clone, Copy)]
 pub enum Ending {
     Done,
     Spent,
@@ -26,7 +28,7 @@ pub enum Ending {
 }
 
 // A run's answer: the state, the ending, the turns made, the rounds that they closed, and each task's moves and waits.
-#[derive(Drop)]
+#[derive(Clone, Copy)]
 pub struct Ran {
     pub state: State,
     pub ending: Ending,

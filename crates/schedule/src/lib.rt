@@ -1,5 +1,7 @@
 // Lists of turns: the first that is no task, their passes, and the first pass from a place. What each function answers is defined in specs/Passes.antt and
 // specs/FirstPass.antt; the laws of both, and of the stretches that turns are cut into, stand in the files beside them.
+#![tactic(auto)]
+
 pub mod answer;
 
 ghost use Rattle.std.specs.Prelude.{◌≡◌, true, ◌+◌, ◌*◌, ◌≤◌, min, length, drop};

@@ -1,4 +1,6 @@
 // The sheet: from a text to what is printed. What a text says is the crate `reader`'s; what is printed of it is defined in specs/Print.antt.
+#![tactic(auto)]
+
 pub mod answer;
 mod print;
 

@@ -1,0 +1,24 @@
+use Rattle.std.proofs.Common.{arith, sym}
+use Rattle.std.proofs.lemmas.List.{length-take-le}
+use Rattle.machine.specs.Turn.{effect_of}
+use Rattle.machine.specs.RangeLaws.{range}
+use Rattle.machine.specs.KeepLaws.{looked_known}
+use Rattle.machine.proofs.State.effect.Goals as goal
+
+-- the task, the one that it looks at and the table are there
+pub bounds-self-task : goal.bounds-self-task
+bounds-self-task c = omega (arith, (range c.args.self c.requires.valid).few)
+
+pub bounds-self-looked : goal.bounds-self-looked
+bounds-self-looked c =
+    omega (arith, (range c.args.self c.requires.valid).few, looked_known c.args.self c.args.task c.requires.valid c.requires.task_lt_n)
+
+pub slice_bounds-parents-end : goal.slice_bounds-parents-end
+slice_bounds-parents-end c = omega (arith, (range c.args.self c.requires.valid).few)
+
+pub slice_bounds-effect_of-end : goal.slice_bounds-effect_of-end
+slice_bounds-effect_of-end c = sym (length-take-le _ _ (omega (arith, (range c.args.self c.requires.valid).few)))
+
+pub returns : goal.returns
+unfolding effect_of
+returns c = rw c.shared.ensures at c.effect_of.ensures

@@ -1,0 +1,28 @@
+-- `run_tasks` meets its contract: no state to begin with, or the run that writes four numbers a task.
+use Rattle.std.proofs.Common.{eq-eqb, ne_eqb}
+use Rattle.tungwaff.specs.Entry.{ran_from, log_from, tasks_from}
+use Rattle.tungwaff.proofs.run_tasks.Goals as goal
+
+pub returns-then-begun-ne0-clause-value : goal.returns-then-begun-ne0-clause-value
+unfolding ran_from
+returns-then-begun-ne0-clause-value c = rw (ne_eqb c.args.begun.reason 0 c.if-begun-ne0.true) c.unrun.ensures
+
+pub returns-then-begun-ne0-clause-log_after : goal.returns-then-begun-ne0-clause-log_after
+unfolding log_from
+returns-then-begun-ne0-clause-log_after c = rw (ne_eqb c.args.begun.reason 0 c.if-begun-ne0.true)
+
+pub returns-then-begun-ne0-clause-tasks_after : goal.returns-then-begun-ne0-clause-tasks_after
+unfolding tasks_from
+returns-then-begun-ne0-clause-tasks_after c = rw (ne_eqb c.args.begun.reason 0 c.if-begun-ne0.true)
+
+pub returns-clause-value : goal.returns-clause-value
+unfolding ran_from
+returns-clause-value c = rw (eq-eqb c.args.begun.reason 0 c.if-begun-ne0.false) c.by_task.ensures.value
+
+pub returns-clause-log_after : goal.returns-clause-log_after
+unfolding log_from
+returns-clause-log_after c = rw (eq-eqb c.args.begun.reason 0 c.if-begun-ne0.false) c.by_task.ensures.log_after
+
+pub returns-clause-tasks_after : goal.returns-clause-tasks_after
+unfolding tasks_from
+returns-clause-tasks_after c = rw (eq-eqb c.args.begun.reason 0 c.if-begun-ne0.false) c.by_task.ensures.rows_after
