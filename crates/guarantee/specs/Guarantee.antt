@@ -1,8 +1,8 @@
 -- Demand 3: one theorem for every list of turns and runs from any reached state.
 --
 -- Its words are definitions, each with the paper's sentence beside it:
---   Reached, Call, afterAll, countedAll, Close, Behind   `Calls` beside this file, over `fresh_of`, `turn_of` and `run_of`, which the contracts of fresh, turn and run cite
---   countedIn     the counted turns of a run              runner, `Trace`
+--   Reached, Call, after_all, counted_all, Close, Behind   `Calls` beside this file, over `fresh_of`, `turn_of` and `run_of`, which the contracts of fresh, turn and run cite
+--   counted_in     the counted turns of a run              runner, `Trace`
 --   CutInto       stretches that each name every task     schedule, `Stretch`
 --   least         the least count                         machine, `Least`
 --   promised      2 × M, in `promised_in`                  bound, `Bound`

@@ -25,7 +25,7 @@ pub record Tallies (n : ℕ) (tallies : List ℕ) : Type 0 where
   pub long : length tallies ≡ 64
   pub each : (q : ℕ) → q < 64 → tally_ok n q (get_or tallies q 0) ≡ true
 
--- what stateOk tests
+-- what state_ok tests
 pub record InRange (s : State) : Type 0 where
   pub kind : s.kind ≤ last_kind
   pub some : 1 ≤ s.n

@@ -18,7 +18,7 @@ use Rattle.setup.specs.Range.{field_ok, list_room, task_ok, task_zero, shared_ok
 
 -- ---- a task
 
--- what taskOk tests
+-- what task_ok tests
 pub record TaskRange (w : Shared) (table : List ℕ) (q : ℕ) (t : Task) : Type 0 where
   pub line_from : 11 ≤ t.line
   pub line_to : t.line ≤ last_line w.kind
@@ -88,7 +88,7 @@ range_task w table q t r =
       r.own,
     )
 
--- what taskZero tests
+-- what task_zero tests
 pub record Zeros (t : Task) : Type 0 where
   pub line : t.line ≡ 0
   pub count : t.count ≡ 0
@@ -141,7 +141,7 @@ zeros t e =
 
 -- ---- what all tasks share
 
--- what sharedOk tests
+-- what shared_ok tests
 pub record SharedRange (w : Shared) : Type 0 where
   pub kind : w.kind ≤ last_kind
   pub some : 1 ≤ w.n

@@ -256,12 +256,7 @@ fn ready_in(begun: Begun) -> Ready
 
 // Makes a turn of the task from the state that the list keeps, and writes the state after it to the list. Answers the reason that refused the list
 // or the turn; 0 if nothing was refused. `moved` is 1 if the turn moved, 0 if it waited or was refused; `closed` is 1 if it closed a round, else 0.
-pub fn tungwaff_turn(
-    list: &mut [u64],
-    task: usize,
-    moved: &mut u8,
-    closed: &mut u8,
-) -> u8
+pub fn tungwaff_turn(list: &mut [u64], task: usize, moved: &mut u8, closed: &mut u8) -> u8
     ensures { defs.turn_told list.old task
         ≡ record { reason = result; moved = moved.new; closed = closed.new; list = list.new } }
 {

@@ -53,7 +53,10 @@ pub extern "C" fn tungwaff_run(
           tasks = tasks.new;
         } }
 {
-    tungwaff::tungwaff_run(kind, n, modulus, parents, starts, works, schedule, allowance, log, tasks, turns, place, rounds)
+    tungwaff::tungwaff_run(
+        kind, n, modulus, parents, starts, works, schedule, allowance, log, tasks, turns, place,
+        rounds,
+    )
 }
 
 // Runs the schedule as `tungwaff_run` does, from the state that the list keeps, and writes the state after it to the list. Reason 10 is also that of
@@ -177,7 +180,9 @@ pub extern "C" fn tungwaff_play(
     ensures { defs.play_told (defs.inputs_from kind n modulus parents.now starts.now works.now) trace.now
         ≡ record { reason = result; agrees = agrees.new; index = index.new } }
 {
-    tungwaff::tungwaff_play(kind, n, modulus, parents, starts, works, trace, agrees, index)
+    tungwaff::tungwaff_play(
+        kind, n, modulus, parents, starts, works, trace, agrees, index,
+    )
 }
 
 // Plays a trace as `tungwaff_play` does, and writes the state after it, or before the triple that differs, to the list. Reason 10 is that of a list that is too
@@ -199,7 +204,9 @@ pub extern "C" fn tungwaff_play_state(
         trace.now list.old
         ≡ record { told = record { reason = result; agrees = agrees.new; index = index.new }; list = list.new } }
 {
-    tungwaff::tungwaff_play_state(kind, n, modulus, parents, starts, works, trace, list, agrees, index)
+    tungwaff::tungwaff_play_state(
+        kind, n, modulus, parents, starts, works, trace, list, agrees, index,
+    )
 }
 
 // The passes that demand 3 promises to raise the least count. Answers the reason that refused the call, 0 if it was not refused.
@@ -239,7 +246,9 @@ pub extern "C" fn tungwaff_read(
           schedule = schedule.new;
         } }
 {
-    tungwaff::tungwaff_read(text, parents, schedule, kind, n, modulus, entries, turns, place)
+    tungwaff::tungwaff_read(
+        text, parents, schedule, kind, n, modulus, entries, turns, place,
+    )
 }
 
 // Prints the sheet of a text to the page, with zeros after it, and answers how many bytes it has.
