@@ -9,4 +9,3 @@ pub mod Place
 pub mod Times
 pub mod TimesLaws
 pub mod Work
-pub mod WorkLaws

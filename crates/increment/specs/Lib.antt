@@ -2,10 +2,4 @@
 -- (`Phases`), that it is kept (`Kept`), that some task can move (`Moves`), how far a task is in its round (`Round`), what the invariant forbids
 -- (`Safe`), and all of these as one record (`Increment`).
 pub mod Invariant
-pub mod Lines
-pub mod Phases
-pub mod Kept
-pub mod Moves
 pub mod Round
-pub mod Safe
-pub mod Increment

@@ -1,23 +1,15 @@
 -- How far a task is in its round of five places, and where its count rises.
-use Rattle.std.specs.Prelude.{◌≡◌, List, ◌≢◌, ℕ, ◌+◌, ◌*◌, ◌<◌, eqb}
-use Rattle.std.proofs.Common.{arith, eq-eqb, ne_eqb}
+use Rattle.std.specs.Prelude.{List, ℕ, ◌+◌, eqb}
 use Rattle.bitset.specs.Choice.{pick}
-use Rattle.bitset.specs.ChoiceLaws.{by_test}
 use Rattle.lines.specs.declared.Task.{Task}
-use Rattle.machine.specs.declared.State.{State}
-use Rattle.machine.specs.Setters.{task_at}
-use Rattle.machine.specs.Turn.{effect_of}
-use Rattle.barrier.specs.View.{View, view_of}
-use Rattle.barrier.specs.Barrier.{Able, Holds, Leads, times_done}
-use Rattle.increment.specs.Invariant.{Inv}
-use Rattle.increment.specs.Lines.{by_line}
+use Rattle.barrier.specs.View.{View}
 
 -- the places of a round: 13, 14, 15 and 16, 11, 12
 abbrev pub L : ℕ → List ℕ → ℕ → ℕ
 L n table q = 5
 
 -- the places since the count rose, which 13 does; 15 and 16 stand at one
-abbrev offset_of : ℕ → ℕ
+abbrev pub offset_of : ℕ → ℕ
 offset_of line =
     pick (eqb line 14) 0
     (pick (eqb line 11) 2
@@ -28,36 +20,6 @@ offset_of line =
 abbrev pub offset : ℕ → List ℕ → ℕ → Task → ℕ
 offset n table q t = offset_of t.line
 
-offset_lt : (l : ℕ) → offset_of l < 5
-offset_lt l =
-    by_test (λ x. x < 5) (eqb l 14) (λ _. omega arith)
-    (λ _. by_test (λ x. x < 5) (eqb l 11) (λ _. omega arith)
-    (λ _. by_test (λ x. x < 5) (eqb l 12) (λ _. omega arith)
-    (λ _. by_test (λ x. x < 5) (eqb l 13) (λ _. omega arith) (λ _. omega arith))))
-
-pub within : (s : State) → Holds 1 Inv s → (q : ℕ) → q < s.n → offset_of (task_at s q).line < 5
-within s i q h = offset_lt (task_at s q).line
-
 -- at 13 a task that does not arrive last goes to 16, past 14's place
 abbrev pub skips : View → ℕ → ℕ
 skips v p = pick (eqb (v.task p).line 13) (pick (eqb (v.arrivals + 1) v.n) 0 1) 0
-
--- how far a task that is t is
-abbrev placed : Task → ℕ
-placed t = t.count * 5 + offset_of t.line
-
-module _ (s : State) (p : ℕ) (i : Holds 1 Inv s) (a : Able s p) where
-  -- 13 counts the work, and the lines from 12 on lead there
-  pub done : (task_at s p).line ≢ 11 → times_done 13 (effect_of s p).task ≡ times_done 13 (task_at s p)
-  done off =
-      by_line (λ e. times_done 13 e.task ≡ times_done 13 (task_at s p)) s p i.kind a
-      (λ l. absurd (off l)) (λ l. rw l) (λ l last. rw l (omega arith)) (λ l more. rw l (omega arith)) (λ l. rw l) (λ l. rw l) (λ l _. rw l)
-
-  -- a move that leads on takes the task on by one, and past what it skips
-  pub own : Leads s p → placed (effect_of s p).task ≡ placed (task_at s p) + 1 + skips (view_of s) p
-  own =
-      by_line (λ e. ((task_at s p).line ≡ 11 → e.task.line ≡ 12) → placed e.task ≡ placed (task_at s p) + 1 + skips (view_of s) p) s p i.kind a
-      (λ l to left from most on. rw (l, on l) (omega arith)) (λ l _. rw l (omega arith))
-      (λ l last _. rw (l, eq-eqb (s.arrivals + 1) s.n last) (omega arith))
-      (λ l more _. rw (l, ne_eqb (s.arrivals + 1) s.n more) (omega arith))
-      (λ l _. rw l (omega arith)) (λ l _. rw l (omega arith)) (λ l _ _. rw l (omega arith))

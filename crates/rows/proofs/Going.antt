@@ -36,7 +36,7 @@ use Rattle.runner.specs.Run.{log_of}
 use Rattle.runner.specs.RunLaws.{log_row}
 use Rattle.rows.specs.Rows.{turn_row, row_numbers}
 use Rattle.rows.specs.RowsLaws.{rows_none, rows_turn}
-use Rattle.rows.specs.Counting.{rise_at, least_after, made_rises}
+use Rattle.rows.specs.Counting.{rise_at, least_after, turn_counts}
 use Rattle.rows.proofs.Tail.{tail_long, tail_room, tail_more}
 
 pub record Going (s : State) (ts log rows₀ : List ℕ) (i : ℕ) (counts : List ℕ) (low : Least) (rows : List ℕ) : Type 0 where
@@ -174,7 +174,7 @@ module _ {s : State} {ts log rows₀ : List ℕ} {i : ℕ} {counts : List ℕ} {
           (rise ∙ ap (λ (x : ℕ). rise_at s.kind x (get_or log (2 * i + 1) 0)) line_is
           ∙ ap (rise_at s.kind (task_at g.state p).line) moved_is
           ∙ ap (λ (x : ℕ). rise_at x (task_at g.state p).line (move_number next.how)) (sym g.kind))
-          ∙ sym (made_rises g.state p next.how next.made)
+          ∙ sym (turn_counts g.state p next.how next.made)
 
       counted_more : counts' ≡ counts_of after
       counted_more =

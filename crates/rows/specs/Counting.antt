@@ -29,9 +29,9 @@ least_after l count next f n = pick (not (eqb next count) && eqb count l.count) 
 -- ---- a count rises at the counting line alone
 
 -- a turn that is made raises its task's count by 1 at a move of the counting line, and keeps it else
-pub made_rises : (s : State) (p : ℕ) (how : Move) → (turn_of s p).outcome ≡ Made how
+pub turn_counts : (s : State) (p : ℕ) (how : Move) → (turn_of s p).outcome ≡ Made how
     → count_of (turn_of s p).state p ≡ count_of s p + rise_at s.kind (task_at s p).line (move_number how)
-made_rises s p how e =
+turn_counts s p how e =
     let m = turn_makes s p how e in
     own_made s p m.valid m.known how e ∙ go how (effect_of s p) m.act (effect_does s p)
   where

@@ -18,7 +18,7 @@ use Rattle.machine.specs.TurnLaws.{turn_constants, turn_work, turn_length}
 use Rattle.snapshot.specs.Snapshot.{head_numbers, most_in}
 use Rattle.snapshot.specs.RoundTrip.{numbers, Sized, all_fit}
 use Rattle.guarantee.specs.Calls.{Reached}
-use Rattle.guarantee.specs.Reach.{reached_by, reached_valid}
+use Rattle.guarantee.proofs.Reach.{reached_by, reached_valid}
 
 -- what is not in the range of a state, since the code's types ensure it
 record Bytes (s : State) : Type 0 where

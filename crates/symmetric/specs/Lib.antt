@@ -2,11 +2,5 @@
 -- move (`Moves`), how far a task is in its round (`Round`), the counts (`Safe`); `Symmetric` puts them together. `Tags`, over `Modulo`, says what
 -- the tags tell of the counts.
 pub mod Invariant
-pub mod Lines
 pub mod Modulo
-pub mod Tags
-pub mod Kept
-pub mod Moves
 pub mod Round
-pub mod Safe
-pub mod Symmetric

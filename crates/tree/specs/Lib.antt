@@ -3,15 +3,5 @@
 -- `Tree` puts them together. `TreeRange` says what the range has of a tree, and `Stands` where each task stands by the invariant.
 -- `Loop` has the words of 02's P5 on the moves of a task at each line, and `LoopLaws` shows them.
 pub mod Invariant
-pub mod TreeRange
-pub mod Lines
-pub mod Stands
-pub mod Steps
-pub mod Kept
-pub mod Moves
 pub mod Round
-pub mod Total
-pub mod Safe
-pub mod Tree
 pub mod Loop
-pub mod LoopLaws

@@ -1,0 +1,2 @@
+-- The law on the words of `Work`.
+pub mod WorkLaws

@@ -1,0 +1,2 @@
+-- The laws of a session.
+pub mod SessionLaws
