@@ -79,10 +79,10 @@ pub record SameAll (s₁ s₄ : State) (cs : List Call) : Type 0 where
 
 pub calls_same : {s₁ s₄ : State} → Pair s₁ s₄ → (cs : List Call) → SameAll s₁ s₄ cs
 unfolding answers counted_all after_all
-calls_same pair [] = record { answered = refl; counting = refl; pair = pair }
-calls_same pair (c ∷ cs) =
+calls_same {s₁ = s₁} {s₄ = s₄} pair [] = record { answered = refl; counting = refl; pair = pair }
+calls_same {s₁ = s₁} {s₄ = s₄} pair (c ∷ cs) =
     let one = call_same pair c in
-    let rest = calls_same one.pair cs in
+    let rest = calls_same {s₁ = after s₁ c} {s₄ = after s₄ c} one.pair cs in
     record { answered = rw (one.answered, rest.answered); counting = rw (one.counting, rest.counting); pair = rest.pair }
 
 -- ---- what coupled states share
@@ -128,7 +128,7 @@ PlaysSame r₁ r₄ = (r₁.verdict ≡ r₄.verdict) × Pair r₁.state r₄.st
 plays_same : {s₁ s₄ : State} → Pair s₁ s₄ → (i : ℕ) (ts : List Triple) → PlaysSame (play_from s₁ i ts) (play_from s₄ i ts)
 plays_same {s₁} {s₄} pair i [] = rw (from_none s₁ i, from_none s₄ i) (refl, pair)
 plays_same {s₁} {s₄} pair i (t ∷ ts) =
-    rw (from_triple s₁ i t ts, from_triple s₄ i t ts, does_same pair t) (go (does s₄ t) (plays_same (turns pair t.task).1 (suc i) ts))
+    rw (from_triple s₁ i t ts, from_triple s₄ i t ts, does_same pair t) (go (does s₄ t) (plays_same {s₁ = (turn_of s₁ t.task).state} {s₄ = (turn_of s₄ t.task).state} (turns pair t.task).1 (suc i) ts))
   where
     go : (b : Bool) {r₁ r₄ : Played} → PlaysSame r₁ r₄
         → PlaysSame (pick b r₁ (record { state = s₁; verdict = verdict.Differs i })) (pick b r₄ (record { state = s₄; verdict = verdict.Differs i }))

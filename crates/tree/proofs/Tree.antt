@@ -3,8 +3,7 @@ use Rattle.std.specs.Prelude.{refl}
 use Rattle.std.proofs.Common.{arith}
 use Rattle.barrier.specs.Barrier.{Barrier}
 use Rattle.tree.specs.Invariant.{Inv}
-use Rattle.tree.proofs.Kept.{fresh}
-use Rattle.tree.proofs.Keeping.{keeps}
+use Rattle.tree.proofs.Kept.{fresh, keeps}
 use Rattle.tree.proofs.Moves.{someone}
 use Rattle.tree.specs.Round.{L, offset}
 use Rattle.tree.proofs.RoundLaws.{within, done, own}

@@ -16,6 +16,8 @@
 // Any other line is answered `bad line` and changes nothing. Standard input is read in blocks. Their bytes go one by one to the line that is being
 // read (text.rt); a line feed ends it, and it is told which request it is (request.rt) and answered (answer.rt, fields.rt). The answers are gathered
 // in a buffer (print.rt).
+#![tactic(auto)]
+
 mod answer;
 mod fields;
 mod print;
@@ -23,9 +25,12 @@ mod request;
 mod text;
 
 use fields::{Kept, NUMBERS};
-use libc::STDIN_FILENO;
 use print::{Output, ROOM};
+use std::io::{Read, Stdin};
 use text::{Entries, Line, MOST_NUMBERS};
+
+// The most bytes of a block.
+const BLOCK: usize = 65536;
 
 // What goes on from block to block: the line being read, the place of the next byte of output, and whether there is more input.
 #[derive(Drop)]
@@ -77,11 +82,16 @@ fn read_block(
     }
 }
 
-// Reads once, and answers the lines that came.
-fn read_some(replay: Replay, kept: &mut Kept, entries: &mut Entries, out: &mut Output) -> Replay {
-    let mut block = io::large_buffer();
-    let got = libc::read(STDIN_FILENO, &mut block);
-    let n = io::count(got, &block);
+// Reads once, and answers the lines that came. A read that fails counts as the end of the input.
+fn read_some(
+    replay: Replay,
+    input: &mut Stdin,
+    kept: &mut Kept,
+    entries: &mut Entries,
+    out: &mut Output,
+) -> Replay {
+    let mut block = [0u8; BLOCK];
+    let n = input.read(&mut block).unwrap_or(0);
     if n == 0 {
         let mut ended = replay;
         ended.more = false;
@@ -91,7 +101,7 @@ fn read_some(replay: Replay, kept: &mut Kept, entries: &mut Entries, out: &mut O
 }
 
 // A proved loop has to end, and nothing says that the input does. So the loop counts its turns down, from a number that no run uses up.
-fn read_all(kept: &mut Kept, entries: &mut Entries, out: &mut Output) -> Replay {
+fn read_all(input: &mut Stdin, kept: &mut Kept, entries: &mut Entries, out: &mut Output) -> Replay {
     let mut replay = Replay {
         line: text::empty(),
         at: 0,
@@ -99,7 +109,7 @@ fn read_all(kept: &mut Kept, entries: &mut Entries, out: &mut Output) -> Replay 
     };
     let mut turns = u64::MAX;
     while turns > 0 && replay.more {
-        replay = read_some(replay, kept, entries, out);
+        replay = read_some(replay, input, kept, entries, out);
         turns -= 1;
     }
     replay
@@ -114,10 +124,13 @@ fn finish(replay: Replay, kept: &mut Kept, entries: &mut Entries, out: &mut Outp
     print::flush(out, at);
 }
 
-fn main() {
+fn main(rt: HostRuntime) {
     let mut kept = [0u64; NUMBERS];
     let mut entries = [0u8; MOST_NUMBERS];
-    let mut out = [0u8; ROOM];
-    let replay = read_all(&mut kept, &mut entries, &mut out);
+    let mut out = Output {
+        buffer: [0u8; ROOM],
+        stdout: rt.stdout(),
+    };
+    let replay = read_all(&mut rt.stdin(), &mut kept, &mut entries, &mut out);
     finish(replay, &mut kept, &mut entries, &mut out);
 }

@@ -1,9 +1,14 @@
 // Answers as text, gathered in a lent buffer. Each function is told the place of the next byte, and answers the place after what it put there.
-use libc::STDOUT_FILENO;
+use std::io::Stdout;
 
 pub const ROOM: usize = 65536;
 
-pub type Output = [u8; ROOM];
+// The buffer, and where it is written out. Where that fails there is nobody to tell, and the replay goes on.
+#[derive(Drop)]
+pub struct Output {
+    pub buffer: [u8; ROOM],
+    pub stdout: Stdout,
+}
 
 // What an answer begins with: a word alone, a number, or a word with a number.
 #[derive(Drop)]
@@ -34,11 +39,11 @@ pub enum Said {
 // One byte. A full buffer is written out first.
 pub(crate) fn byte(b: u8, out: &mut Output, at: usize) -> usize {
     if at < ROOM {
-        out[at] = b;
+        out.buffer[at] = b;
         return at + 1;
     }
-    io::write_all(STDOUT_FILENO, out);
-    out[0] = b;
+    let _ = out.stdout.write_all(&out.buffer);
+    out.buffer[0] = b;
     1
 }
 
@@ -53,9 +58,8 @@ fn text(s: &[u8], out: &mut Output, at: usize) -> usize {
 }
 
 pub(crate) fn number(n: u64, out: &mut Output, at: usize) -> usize {
-    let mut digits = [0u8; 20];
-    let len = io::decimal(n, &mut digits);
-    text(&digits[..len], out, at)
+    let mut digits = itoa::Buffer::new();
+    text(digits.format(n).as_bytes(), out, at)
 }
 
 // A word and a number.
@@ -128,5 +132,5 @@ pub(crate) fn part(s: &[u8], from: usize, to: usize) -> &[u8] {
 
 // Writes out what the buffer holds.
 pub(crate) fn flush(out: &Output, at: usize) {
-    io::write_all(STDOUT_FILENO, part(out, 0, at));
+    let _ = out.stdout.write_all(part(&out.buffer, 0, at));
 }

@@ -15,7 +15,7 @@ const MOST_HEAD: usize = 7;
 // The low byte of each number.
 pub type Entries = [u8; MOST_NUMBERS];
 
-#[derive(Drop)]
+#[derive(Clone, Copy)]
 pub struct Line {
     // Its bytes so far.
     pub length: usize,
