@@ -40,7 +40,7 @@
  *
  * Stack
  *
- * What a call needs, in KiB, rounded up: measured with N 64, every table and the longest input, the most over all kinds. It isn't proved,
+ * What a call needs, in KiB, rounded up: measured with an older kit (rattle-kit-5b-plain), N 64, every table and the longest input, the most over all kinds. It isn't proved,
  * and a library that another compiler built may need more.
  *
  *     sheet 276    play       37    run    28    limit       1

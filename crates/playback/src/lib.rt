@@ -12,7 +12,7 @@ use machine::{Setup, State};
 
 // What a play-back reports: every triple is what the defined turn does; the index, from 0, of the first that is not; or the number of the reason
 // that refused it.
-#[derive(Drop)]
+#[derive(Clone, Copy)]
 pub enum Verdict {
     Agrees,
     Differs(usize),
@@ -20,14 +20,14 @@ pub enum Verdict {
 }
 
 // A play-back's answer: the verdict, and the state after the trace, before the triple that differs, or all 0 where it is refused.
-#[derive(Drop)]
+#[derive(Clone, Copy)]
 pub struct Played {
     pub state: State,
     pub verdict: Verdict,
 }
 
 // How many triples of a part are what the turns do, from the first on, and the state after them.
-#[derive(Drop)]
+#[derive(Clone, Copy)]
 struct Part {
     same: usize,
     state: State,
