@@ -11,9 +11,9 @@ use Rattle.machine.specs.declared.State.{State}
 use Rattle.machine.specs.Setters.{task_at}
 use Rattle.machine.specs.Range.{Valid}
 use Rattle.machine.specs.Turn.{effect_of, turn_of}
-use Rattle.machine.specs.TurnLaws.{effect_keeps, turn_constants, turn_work}
+use Rattle.machine.proofs.TurnLaws.{effect_keeps, turn_constants, turn_work}
 use Rattle.machine.specs.RangeLaws.{range}
-use Rattle.machine.specs.KeepLaws.{turn_valid}
+use Rattle.machine.proofs.KeepLaws.{turn_valid}
 use Rattle.barrier.specs.View.{view_of}
 use Rattle.barrier.specs.Barrier.{Able, AllLeft}
 use Rattle.barrier.specs.Times.{move_at}

@@ -15,9 +15,9 @@ use Rattle.machine.specs.Fresh.{Inputs, fresh_state}
 use Rattle.machine.specs.FreshLaws as laws
 use Rattle.machine.specs.Range.{Valid}
 use Rattle.machine.specs.Turn.{effect_of, turn_of}
-use Rattle.machine.specs.TurnLaws.{effect_rule, effect_keeps, turn_makes, refused_still, waited_tallied, moved_tallied, turn_constants, constants_written, own_field, other_field}
+use Rattle.machine.proofs.TurnLaws.{effect_rule, effect_keeps, turn_makes, refused_still, waited_tallied, moved_tallied, turn_constants, constants_written, own_field, other_field}
 use Rattle.machine.specs.RangeLaws.{range, present}
-use Rattle.machine.specs.KeepLaws.{turn_valid}
+use Rattle.machine.proofs.KeepLaws.{turn_valid}
 use Rattle.barrier.specs.View.{View, view_of, effect_at}
 use Rattle.barrier.specs.Barrier.{Able, moved, AllLeft, Holds, Barrier}
 

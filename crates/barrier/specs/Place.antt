@@ -15,7 +15,7 @@ use Rattle.machine.specs.declared.State.{State}
 use Rattle.machine.specs.Setters.{task_at}
 use Rattle.machine.specs.Range.{table_of}
 use Rattle.machine.specs.Turn.{effect_of, turn_of, reason_number}
-use Rattle.machine.specs.TurnLaws.{Constants, constants_written, turn_constants, turn_work, effect_keeps, able_moves, moved_tallied}
+use Rattle.machine.proofs.TurnLaws.{Constants, constants_written, turn_constants, turn_work, effect_keeps, able_moves, moved_tallied}
 use Rattle.machine.specs.RangeLaws.{TaskIn, range}
 use Rattle.machine.specs.Least.{least}
 use Rattle.machine.specs.LeastLaws.{least_le, least_attained}

@@ -5,7 +5,7 @@ use Rattle.lines.specs.declared.Task.{Task}
 use Rattle.machine.specs.declared.State.{State}
 use Rattle.machine.specs.Setters.{task_at, with_task}
 use Rattle.machine.specs.Range.{Valid}
-use Rattle.machine.specs.TurnLaws.{put_same, put_other}
+use Rattle.machine.proofs.TurnLaws.{put_same, put_other}
 use Rattle.machine.specs.RangeLaws.{range, present}
 
 -- t' is t with b at p

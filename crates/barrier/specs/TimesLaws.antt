@@ -12,7 +12,7 @@ use Rattle.machine.specs.declared.Outcome.TheVariants.{Made, Refused}
 use Rattle.machine.specs.Setters.{task_at}
 use Rattle.machine.specs.Range.{Valid}
 use Rattle.machine.specs.Turn.{effect_of, turn_of}
-use Rattle.machine.specs.TurnLaws.{refused_still, waited_tallied, moved_tallied}
+use Rattle.machine.proofs.TurnLaws.{refused_still, waited_tallied, moved_tallied}
 use Rattle.barrier.specs.Barrier.{Able}
 use Rattle.barrier.specs.Moves.{moved_able, own_after, other_after}
 use Rattle.barrier.specs.Times.{move_at}

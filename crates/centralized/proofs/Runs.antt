@@ -4,7 +4,7 @@ use Rattle.machine.specs.declared.State.{State}
 use Rattle.machine.specs.declared.Outcome.{Outcome}
 use Rattle.machine.specs.declared.Outcome.TheVariants.{Made, Refused}
 use Rattle.machine.specs.Turn.{turn_of}
-use Rattle.machine.specs.TurnLaws.{turn_makes}
+use Rattle.machine.proofs.TurnLaws.{turn_makes}
 use Rattle.runner.specs.Trace.{Trace, turned, trace_of}
 use Rattle.runner.specs.TraceLaws.{trace_none, trace_turn}
 use Rattle.runner.specs.Run.{run_reason}

@@ -18,8 +18,8 @@ use Rattle.machine.specs.Tally.{tallied}
 use Rattle.machine.specs.Least.{least}
 use Rattle.machine.specs.LeastLaws.{least_same}
 use Rattle.machine.specs.Turn.{effect_of, moved_to, answer_of, applied, turn_of}
-use Rattle.machine.specs.TurnLaws.{turn_unknown, turn_answer, turn_applied, turn_constants, moved_n, effect_1, effect_4}
-use Rattle.machine.specs.KeepLaws.{turn_valid}
+use Rattle.machine.proofs.TurnLaws.{turn_unknown, turn_answer, turn_applied, turn_constants, moved_n, effect_1, effect_4}
+use Rattle.machine.proofs.KeepLaws.{turn_valid}
 use Rattle.barrier.specs.Moves.{keeps_all}
 use Rattle.barrier.specs.Puts.{at_task, stored}
 use Rattle.increment.proofs.Increment.{increment}

@@ -10,9 +10,9 @@ use Rattle.machine.specs.declared.Outcome.TheVariants.{Made, Refused}
 use Rattle.machine.specs.Fresh.{Inputs, fresh_reason, fresh_state, zero_state, fresh_of}
 use Rattle.machine.specs.FreshLaws.{fresh_accepted}
 use Rattle.machine.specs.Turn.{turn_of}
-use Rattle.machine.specs.TurnLaws.{turn_makes}
+use Rattle.machine.proofs.TurnLaws.{turn_makes}
 use Rattle.machine.specs.Ready.{ready_from, ready_of}
-use Rattle.machine.specs.ReadyLaws.{ready_alike, ready_is}
+use Rattle.machine.proofs.ReadyLaws.{ready_alike, ready_is}
 use Rattle.bound.specs.BoundLaws.{promised_same}
 use Rattle.runner.specs.Trace.{trace_of}
 use Rattle.runner.specs.Run.{run_reason, run_of}

@@ -10,10 +10,10 @@ use Rattle.machine.specs.Setters.{task_at, moves_at, waits_at}
 use Rattle.machine.specs.Fresh.{Inputs, fresh_state, fresh_task}
 use Rattle.machine.specs.FreshLaws.{fresh_at, fresh_tally}
 use Rattle.machine.specs.Turn.{turn_of}
-use Rattle.machine.specs.TurnLaws.{turn_constants}
-use Rattle.machine.specs.CountLaws.{turn_rises}
-use Rattle.machine.specs.RefusalLaws.{Goes, turn_goes}
-use Rattle.machine.specs.TallyLaws.{tallies_rise}
+use Rattle.machine.proofs.TurnLaws.{turn_constants}
+use Rattle.machine.proofs.CountLaws.{turn_rises}
+use Rattle.machine.proofs.RefusalLaws.{Goes, turn_goes}
+use Rattle.machine.proofs.TallyLaws.{tallies_rise}
 use Rattle.runner.specs.Trace.{nothing, turned, trace_of}
 use Rattle.runner.specs.TraceLaws.{trace_none, trace_turn}
 use Rattle.guarantee.specs.Calls.{turn, Reached, called}

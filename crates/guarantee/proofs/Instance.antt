@@ -8,10 +8,10 @@ use Rattle.machine.specs.declared.State.{State}
 use Rattle.machine.specs.Setters.{task_at}
 use Rattle.machine.specs.Range.{table_of, Valid}
 use Rattle.machine.specs.Turn.{turn_of}
-use Rattle.machine.specs.TurnLaws.{turn_constants}
+use Rattle.machine.proofs.TurnLaws.{turn_constants}
 use Rattle.machine.specs.RangeLaws.{range}
 use Rattle.machine.specs.Least.{least}
-use Rattle.machine.specs.CountLaws.{turn_least}
+use Rattle.machine.proofs.CountLaws.{turn_least}
 use Rattle.barrier.specs.View.{view_of}
 use Rattle.barrier.specs.Barrier.{Able, Holds, Barrier}
 use Rattle.barrier.specs.Moves.{keeps_all}

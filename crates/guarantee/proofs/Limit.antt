@@ -9,7 +9,7 @@ use Rattle.machine.specs.declared.State.{State}
 use Rattle.machine.specs.Fresh.{Inputs, fresh_reason, fresh_state, fresh_of}
 use Rattle.machine.specs.FreshLaws.{accepted_inputs, fresh_accepted, fresh_work}
 use Rattle.machine.specs.Turn.{turn_of}
-use Rattle.machine.specs.TurnLaws.{turn_constants, turn_work}
+use Rattle.machine.proofs.TurnLaws.{turn_constants, turn_work}
 use Rattle.machine.specs.Least.{least}
 use Rattle.bound.specs.Bound.{limit_of}
 use Rattle.bound.specs.BoundLaws.{promised_same}

@@ -24,7 +24,7 @@ use Rattle.machine.specs.Least.{least}
 use Rattle.machine.specs.LeastLaws.{least_le, least_attained}
 use Rattle.machine.specs.Turn.{turn_of}
 use Rattle.machine.specs.Ready.{ready_of}
-use Rattle.machine.specs.TurnLaws.{refused_still}
+use Rattle.machine.proofs.TurnLaws.{refused_still}
 use Rattle.runner.specs.declared.Ending.{Ending}
 use Rattle.runner.specs.declared.Ending.TheVariants.{Done}
 use Rattle.runner.specs.declared.Ran.{Ran}

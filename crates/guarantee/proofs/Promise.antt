@@ -6,11 +6,11 @@ use Rattle.machine.specs.declared.State.{State}
 use Rattle.machine.specs.declared.Ready.TheVariants.{Task}
 use Rattle.machine.specs.Setters.{moves_at}
 use Rattle.machine.specs.Tally.{max_tally}
-use Rattle.machine.specs.TallyLaws.{moves_limit}
+use Rattle.machine.proofs.TallyLaws.{moves_limit}
 use Rattle.machine.specs.Turn.{is_moved}
-use Rattle.machine.specs.TurnLaws.{turn_moves}
+use Rattle.machine.proofs.TurnLaws.{turn_moves}
 use Rattle.machine.specs.Ready.{ready_of, ready_reason, ready_number}
-use Rattle.machine.specs.ReadyLaws.{would_move, ready_task, ready_some}
+use Rattle.machine.proofs.ReadyLaws.{would_move, ready_task, ready_some}
 use Rattle.machine.specs.RangeLaws.{range}
 use Rattle.machine.specs.Least.{least}
 use Rattle.centralized.proofs.Turns.{same_least}

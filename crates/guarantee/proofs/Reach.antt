@@ -12,9 +12,9 @@ use Rattle.machine.specs.FreshLaws.{accepted_inputs, fresh_accepted, fresh_line,
 use Rattle.machine.specs.FreshLaws as laws
 use Rattle.machine.specs.Range.{shared_of, Valid}
 use Rattle.machine.specs.Turn.{turn_of, reason_number}
-use Rattle.machine.specs.TurnLaws.{turn_constants, turn_work}
-use Rattle.machine.specs.KeepLaws.{turn_valid}
-use Rattle.machine.specs.RefusalLaws.{seven_arrived}
+use Rattle.machine.proofs.TurnLaws.{turn_constants, turn_work}
+use Rattle.machine.proofs.KeepLaws.{turn_valid}
+use Rattle.machine.proofs.RefusalLaws.{seven_arrived}
 use Rattle.barrier.specs.View.{view_of}
 use Rattle.barrier.specs.Barrier.{AllLeft, Holds}
 use Rattle.barrier.specs.Moves.{fresh_left, keeps_all}

@@ -11,8 +11,8 @@ use Rattle.machine.specs.Setters.{moves_at, waits_at}
 use Rattle.machine.specs.Fresh.{Inputs, fresh_reason, fresh_of}
 use Rattle.machine.specs.FreshLaws.{fresh_accepted, fresh_tally}
 use Rattle.machine.specs.Turn.{turn_of, move_number, wait_number}
-use Rattle.machine.specs.TurnLaws.{move_or_wait}
-use Rattle.machine.specs.TallyLaws.{weighed, turn_tallies}
+use Rattle.machine.proofs.TurnLaws.{move_or_wait}
+use Rattle.machine.proofs.TallyLaws.{weighed, turn_tallies}
 use Rattle.schedule.specs.Times.{times}
 use Rattle.schedule.specs.TimesLaws.{times_none, times_turn, times_append}
 use Rattle.runner.specs.Trace.{Trace, trace_of}

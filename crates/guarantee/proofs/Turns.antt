@@ -7,7 +7,7 @@ use Rattle.machine.specs.declared.State.{State}
 use Rattle.machine.specs.declared.Outcome.{Outcome}
 use Rattle.machine.specs.declared.Outcome.TheVariants.{Made, Refused}
 use Rattle.machine.specs.Turn.{turn_of, reason_number}
-use Rattle.machine.specs.TurnLaws.{refused_still, turn_constants}
+use Rattle.machine.proofs.TurnLaws.{refused_still, turn_constants}
 use Rattle.barrier.specs.Work.{after_turns}
 use Rattle.progress.specs.Counting.{AllCount}
 use Rattle.progress.specs.Counting

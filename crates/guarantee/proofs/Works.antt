@@ -4,7 +4,7 @@ use Rattle.std.proofs.Common.{◌∙◌}
 use Rattle.machine.specs.declared.State.{State}
 use Rattle.machine.specs.Setters.{task_at}
 use Rattle.machine.specs.Turn.{turn_of}
-use Rattle.machine.specs.TurnLaws.{turn_work}
+use Rattle.machine.proofs.TurnLaws.{turn_work}
 use Rattle.barrier.specs.Times.{times_at}
 use Rattle.barrier.specs.Work.{Stays}
 use Rattle.guarantee.specs.Calls.{Reached}

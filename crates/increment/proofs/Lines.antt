@@ -13,7 +13,7 @@ use Rattle.lines.specs.LineLaws.{by_increment}
 use Rattle.machine.specs.declared.State.{State}
 use Rattle.machine.specs.Setters.{task_at}
 use Rattle.machine.specs.Turn.{effect_of}
-use Rattle.machine.specs.TurnLaws.{effect_1}
+use Rattle.machine.proofs.TurnLaws.{effect_1}
 use Rattle.barrier.specs.Barrier.{Able}
 use Rattle.barrier.specs.Lines.{Moving, no_wait, no_refusal, Worked, if_worked, if_awaited, if_counted}
 

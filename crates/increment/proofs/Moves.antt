@@ -11,7 +11,7 @@ use Rattle.lines.specs.Common.{max_count}
 use Rattle.lines.specs.LineLaws.{by_increment}
 use Rattle.machine.specs.declared.State.{State}
 use Rattle.machine.specs.Setters.{task_at}
-use Rattle.machine.specs.TurnLaws.{effect_1}
+use Rattle.machine.proofs.TurnLaws.{effect_1}
 use Rattle.machine.specs.Least.{least}
 use Rattle.machine.specs.LeastLaws.{least_le, least_attained}
 use Rattle.machine.specs.RangeLaws.{TaskIn, range}

@@ -12,8 +12,8 @@ use Rattle.lines.specs.LineLaws.{by_increment}
 use Rattle.machine.specs.declared.State.{State}
 use Rattle.machine.specs.Setters.{task_at}
 use Rattle.machine.specs.Turn.{effect_of, turn_of, reason_number}
-use Rattle.machine.specs.TurnLaws.{effect_1, turn_unknown}
-use Rattle.machine.specs.RefusalLaws.{seven_acts}
+use Rattle.machine.proofs.TurnLaws.{effect_1, turn_unknown}
+use Rattle.machine.proofs.RefusalLaws.{seven_acts}
 use Rattle.barrier.specs.Barrier.{Holds}
 use Rattle.barrier.specs.Lines.{work_moves}
 use Rattle.increment.specs.Invariant.{Inv}

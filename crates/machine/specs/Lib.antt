@@ -1,4 +1,4 @@
--- The definitions of the machine, in the order of document 01; then their laws.
+-- The definitions of the machine, in the order of document 01; then the laws that no turn has a part in. Those of turns stand in proofs/.
 pub mod Setters
 pub mod Tally
 pub mod Fresh
@@ -6,13 +6,6 @@ pub mod Range
 pub mod Least
 pub mod Turn
 pub mod Ready
-pub mod TurnLaws
 pub mod RangeLaws
-pub mod KeepLaws
 pub mod LeastLaws
 pub mod FreshLaws
-pub mod CountLaws
-pub mod TallyLaws
-pub mod RefusalLaws
-pub mod RoundLaws
-pub mod ReadyLaws

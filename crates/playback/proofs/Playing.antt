@@ -9,7 +9,7 @@ use lib.Seq.{drop-drop}
 use Rattle.bitset.specs.ChoiceLaws.{by_test}
 use Rattle.machine.specs.declared.State.{State}
 use Rattle.machine.specs.Range.{Valid}
-use Rattle.machine.specs.KeepLaws.{turn_valid}
+use Rattle.machine.proofs.KeepLaws.{turn_valid}
 use Rattle.playback.specs.declared.Part.{Part}
 use Rattle.playback.specs.declared.Played.{Played}
 use Rattle.playback.specs.declared.Verdict.TheVariants as verdict

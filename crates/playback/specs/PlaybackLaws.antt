@@ -16,7 +16,7 @@ use Rattle.machine.specs.Setters.{task_at}
 use Rattle.machine.specs.Fresh.{Inputs, fresh_reason, fresh_state}
 use Rattle.machine.specs.Range.{Valid}
 use Rattle.machine.specs.Turn.{turn_of, move_number}
-use Rattle.machine.specs.TurnLaws.{move_le, turn_makes}
+use Rattle.machine.proofs.TurnLaws.{move_le, turn_makes}
 use Rattle.runner.specs.declared.Ending.TheVariants.{Done}
 use Rattle.runner.specs.Trace.{Row, nothing, Trace, turned, trace_of}
 use Rattle.runner.specs.TraceLaws.{trace_none, trace_turn, made_all, trace_n}

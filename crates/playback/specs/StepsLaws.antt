@@ -18,8 +18,8 @@ use Rattle.machine.specs.declared.Outcome.TheVariants.{Made, Refused}
 use Rattle.machine.specs.Setters.{task_at}
 use Rattle.machine.specs.Range.{Valid}
 use Rattle.machine.specs.Turn.{turn_of, move_number}
-use Rattle.machine.specs.TurnLaws.{turn_unknown, turn_constants}
-use Rattle.machine.specs.KeepLaws.{turn_valid}
+use Rattle.machine.proofs.TurnLaws.{turn_unknown, turn_constants}
+use Rattle.machine.proofs.KeepLaws.{turn_valid}
 use Rattle.runner.specs.Trace.{turned, trace_of}
 use Rattle.runner.specs.TraceLaws.{trace_none, trace_turn, trace_stays, made_few}
 use Rattle.runner.specs.Run.{log_of, run_reason, run_of, log_after}

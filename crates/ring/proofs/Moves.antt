@@ -10,7 +10,7 @@ use Rattle.lines.specs.Ring.{nz}
 use Rattle.lines.specs.LineLaws.{by_ring}
 use Rattle.machine.specs.declared.State.{State}
 use Rattle.machine.specs.Setters.{task_at}
-use Rattle.machine.specs.TurnLaws.{effect_2}
+use Rattle.machine.proofs.TurnLaws.{effect_2}
 use Rattle.machine.specs.RangeLaws.{TaskIn, range}
 use Rattle.machine.specs.Least.{least}
 use Rattle.machine.specs.LeastLaws.{least_attained}

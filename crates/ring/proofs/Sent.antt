@@ -11,7 +11,7 @@ use Rattle.machine.specs.declared.State.{State}
 use Rattle.machine.specs.Setters.{task_at, with_task}
 use Rattle.machine.specs.Range.{Valid}
 use Rattle.machine.specs.Turn.{written}
-use Rattle.machine.specs.TurnLaws.{put_same, put_other, put_field, own_field, other_field}
+use Rattle.machine.proofs.TurnLaws.{put_same, put_other, put_field, own_field, other_field}
 use Rattle.machine.specs.RangeLaws.{range, present}
 use Rattle.ring.specs.Invariant.{Has, Seen}
 

@@ -26,10 +26,10 @@ use Rattle.machine.specs.RangeLaws.{range}
 use Rattle.machine.specs.Least.{count_of, counts_of, least}
 use Rattle.machine.specs.LeastLaws.{least_is}
 use Rattle.machine.specs.Turn.{turn_of, move_number, closed_number}
-use Rattle.machine.specs.TurnLaws.{turn_makes, turn_constants}
-use Rattle.machine.specs.CountLaws as count
-use Rattle.machine.specs.RoundLaws.{lent_there, lent_least, other_made, turn_round}
-use Rattle.machine.specs.KeepLaws.{turn_valid}
+use Rattle.machine.proofs.TurnLaws.{turn_makes, turn_constants}
+use Rattle.machine.proofs.CountLaws as count
+use Rattle.machine.proofs.RoundLaws.{lent_there, lent_least, other_made, turn_round}
+use Rattle.machine.proofs.KeepLaws.{turn_valid}
 use Rattle.runner.specs.Trace.{nothing, Trace, turned, trace_of}
 use Rattle.runner.specs.TraceLaws.{trace_turn}
 use Rattle.runner.specs.Run.{log_of}

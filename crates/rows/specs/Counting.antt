@@ -15,8 +15,8 @@ use Rattle.machine.specs.Setters.{task_at}
 use Rattle.machine.specs.Range.{shared_of}
 use Rattle.machine.specs.Least.{count_of}
 use Rattle.machine.specs.Turn.{effect_of, turn_of, move_number}
-use Rattle.machine.specs.TurnLaws.{effect_does, act_of, turn_makes}
-use Rattle.machine.specs.RoundLaws.{own_made}
+use Rattle.machine.proofs.TurnLaws.{effect_does, act_of, turn_makes}
+use Rattle.machine.proofs.RoundLaws.{own_made}
 
 -- by how much a turn raises its task's count: 1 for a move at that line, else 0
 abbrev pub rise_at : ℕ → ℕ → ℕ → ℕ

@@ -22,16 +22,16 @@ use Rattle.machine.specs.declared.Turned.{Turned}
 use Rattle.machine.specs.declared.Outcome.TheVariants.{Made, Refused}
 use Rattle.machine.specs.Setters.{task_at, moves_at, waits_at}
 use Rattle.machine.specs.Tally.{max_tally}
-use Rattle.machine.specs.TallyLaws.{moves_limit, waits_limit}
+use Rattle.machine.proofs.TallyLaws.{moves_limit, waits_limit}
 use Rattle.machine.specs.Range.{shared_of, Valid, table_of}
 use Rattle.machine.specs.Least.{count_of, counts_of, closed_by}
 use Rattle.machine.specs.Least as count
 use Rattle.machine.specs.LeastLaws.{least_is}
-use Rattle.machine.specs.CountLaws.{kept_or_raised}
-use Rattle.machine.specs.RoundLaws.{lent_there, closed_is, own_made, other_made}
+use Rattle.machine.proofs.CountLaws.{kept_or_raised}
+use Rattle.machine.proofs.RoundLaws.{lent_there, closed_is, own_made, other_made}
 use Rattle.machine.specs.Turn.{effect_of, outcome_of, moved_to, answer_of, turn_of, move_number}
-use Rattle.machine.specs.TurnLaws.{effect_rule, stored, turn_made, turn_refused, turn_constants}
-use Rattle.machine.specs.KeepLaws.{turn_valid, looked_known, place_known}
+use Rattle.machine.proofs.TurnLaws.{effect_rule, stored, turn_made, turn_refused, turn_constants}
+use Rattle.machine.proofs.KeepLaws.{turn_valid, looked_known, place_known}
 use Rattle.machine.specs.RangeLaws.{range}
 use Rattle.bitset.specs.Table.{table}
 use Rattle.bitset.specs.TableLaws.{table_at, table_same}

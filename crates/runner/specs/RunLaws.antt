@@ -26,12 +26,12 @@ use Rattle.machine.specs.Range.{check_state, Valid}
 use Rattle.machine.specs.Least.{least}
 use Rattle.machine.specs.Setters.{moves_at, waits_at}
 use Rattle.machine.specs.Turn.{turn_of, move_number, wait_number, closed_number}
-use Rattle.machine.specs.TurnLaws.{move_le, wait_le, move_or_wait}
-use Rattle.machine.specs.KeepLaws.{turn_valid}
+use Rattle.machine.proofs.TurnLaws.{move_le, wait_le, move_or_wait}
+use Rattle.machine.proofs.KeepLaws.{turn_valid}
 use Rattle.machine.specs.RangeLaws.{check_not}
-use Rattle.machine.specs.RefusalLaws.{turn_refusals}
-use Rattle.machine.specs.TallyLaws.{turn_tallies}
-use Rattle.machine.specs.RoundLaws.{turn_closed_lem, turn_round}
+use Rattle.machine.proofs.RefusalLaws.{turn_refusals}
+use Rattle.machine.proofs.TallyLaws.{turn_tallies}
+use Rattle.machine.proofs.RoundLaws.{turn_closed_lem, turn_round}
 use Rattle.runner.specs.declared.Ending.TheVariants.{Stopped}
 use Rattle.runner.specs.declared.Ran.{Ran}
 use Rattle.runner.specs.Trace.{Row, Stop, nothing, refusal, Trace, turned, trace_of}

@@ -8,7 +8,7 @@ use Rattle.machine.specs.declared.Outcome.{Outcome}
 use Rattle.machine.specs.declared.Outcome.TheVariants.{Made, Refused}
 use Rattle.machine.specs.Setters.{task_at}
 use Rattle.machine.specs.Turn.{turn_of}
-use Rattle.machine.specs.TurnLaws.{turn_constants}
+use Rattle.machine.proofs.TurnLaws.{turn_constants}
 use Rattle.runner.specs.Trace.{Row, Stop, nothing, refusal, Trace, turned, trace_of, counted_stop}
 
 -- a refusal is a stop

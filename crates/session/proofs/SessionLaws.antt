@@ -17,8 +17,8 @@ use Rattle.machine.specs.Fresh.{Inputs, fresh_reason, fresh_of}
 use Rattle.machine.specs.FreshLaws.{fresh_reason_lem, fresh_accepted}
 use Rattle.machine.specs.Least.{least}
 use Rattle.machine.specs.Turn.{reason_number, turn_of}
-use Rattle.machine.specs.TurnLaws.{refused_still}
-use Rattle.machine.specs.RefusalLaws.{never_0}
+use Rattle.machine.proofs.TurnLaws.{refused_still}
+use Rattle.machine.proofs.RefusalLaws.{never_0}
 use Rattle.machine.specs.Ready.{ready_of, ready_reason, ready_number}
 use Rattle.bound.specs.Bound.{limit_of}
 use Rattle.runner.specs.declared.Ran.{Ran}

@@ -14,7 +14,7 @@ use Rattle.machine.specs.Tally.{max_tally}
 use Rattle.machine.specs.Range.{tally_ok, Valid}
 use Rattle.machine.specs.RangeLaws.{TaskIn, InRange, range}
 use Rattle.machine.specs.Turn.{turn_of}
-use Rattle.machine.specs.TurnLaws.{turn_constants, turn_work, turn_length}
+use Rattle.machine.proofs.TurnLaws.{turn_constants, turn_work, turn_length}
 use Rattle.snapshot.specs.Snapshot.{head_numbers, most_in}
 use Rattle.snapshot.specs.RoundTrip.{numbers, Sized, all_fit}
 use Rattle.guarantee.specs.Calls.{Reached}

@@ -14,7 +14,7 @@ use Rattle.machine.specs.Setters.{task_at}
 use Rattle.machine.specs.Range.{Valid}
 use Rattle.machine.specs.Least.{least}
 use Rattle.machine.specs.RangeLaws.{InRange, range}
-use Rattle.machine.specs.KeepLaws.{turn_valid}
+use Rattle.machine.proofs.KeepLaws.{turn_valid}
 use Rattle.machine.specs.LeastLaws.{least_le}
 use Rattle.runner.specs.Trace.{trace_of}
 use Rattle.runner.specs.Run.{moves_in, waits_in}

@@ -16,7 +16,7 @@ use Rattle.machine.specs.declared.State.{State}
 use Rattle.machine.specs.Setters.{task_at}
 use Rattle.machine.specs.Range.{shared_of, table_of, Valid}
 use Rattle.machine.specs.Turn.{effect_of}
-use Rattle.machine.specs.TurnLaws.{effect_0}
+use Rattle.machine.proofs.TurnLaws.{effect_0}
 use Rattle.machine.specs.RangeLaws.{range}
 use Rattle.barrier.specs.Barrier.{Able}
 use Rattle.barrier.specs.Lines.{Moving, no_wait, Worked, if_worked, if_awaited, if_counted, if_chosen}

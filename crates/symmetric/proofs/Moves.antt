@@ -10,9 +10,9 @@ use Rattle.lines.specs.LineLaws.{by_symmetric}
 use Rattle.machine.specs.declared.State.{State}
 use Rattle.machine.specs.Setters.{task_at}
 use Rattle.machine.specs.Turn.{effect_of}
-use Rattle.machine.specs.TurnLaws.{effect_0}
+use Rattle.machine.proofs.TurnLaws.{effect_0}
 use Rattle.machine.specs.RangeLaws.{TaskIn, range}
-use Rattle.machine.specs.KeepLaws.{looked_known}
+use Rattle.machine.proofs.KeepLaws.{looked_known}
 use Rattle.machine.specs.Least.{least}
 use Rattle.machine.specs.LeastLaws.{least_le, least_attained}
 use Rattle.barrier.specs.Barrier.{Able, Holds}

@@ -11,7 +11,7 @@ use Rattle.machine.specs.Setters.{task_at, with_task}
 use Rattle.machine.specs.Fresh.{Inputs, fresh_reason, fresh_task, fresh_state}
 use Rattle.machine.specs.Range.{table_of}
 use Rattle.machine.specs.Turn.{written}
-use Rattle.machine.specs.TurnLaws.{put_same, put_other}
+use Rattle.machine.proofs.TurnLaws.{put_same, put_other}
 use Rattle.machine.specs.RangeLaws.{range, present}
 use Rattle.machine.specs.FreshLaws.{accepted_inputs, fresh_valid, fresh_at}
 use Rattle.barrier.specs.View.{view_of}

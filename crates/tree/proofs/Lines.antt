@@ -15,7 +15,7 @@ use Rattle.machine.specs.declared.State.{State}
 use Rattle.machine.specs.Setters.{task_at}
 use Rattle.machine.specs.Range.{table_of, Valid}
 use Rattle.machine.specs.Turn.{effect_of}
-use Rattle.machine.specs.TurnLaws.{effect_3}
+use Rattle.machine.proofs.TurnLaws.{effect_3}
 use Rattle.barrier.specs.Barrier.{Able}
 use Rattle.barrier.specs.Lines.{Moving, no_wait, Worked, if_worked, if_awaited, if_counted, if_chosen}
 use Rattle.tree.proofs.TreeRange.{chosen}

@@ -11,8 +11,8 @@ use Rattle.machine.specs.declared.State.{State}
 use Rattle.machine.specs.Setters.{task_at}
 use Rattle.machine.specs.Range.{table_of, Valid}
 use Rattle.machine.specs.Turn.{effect_of, turn_of}
-use Rattle.machine.specs.TurnLaws.{turn_constants}
-use Rattle.machine.specs.KeepLaws.{turn_valid}
+use Rattle.machine.proofs.TurnLaws.{turn_constants}
+use Rattle.machine.proofs.KeepLaws.{turn_valid}
 use Rattle.barrier.specs.Barrier.{Able}
 use Rattle.barrier.specs.Place.{same_table}
 use Rattle.barrier.specs.Times.{move_at, times_at}

@@ -13,7 +13,7 @@ use Rattle.lines.specs.LineLaws.{by_tree}
 use Rattle.machine.specs.declared.State.{State}
 use Rattle.machine.specs.Setters.{task_at}
 use Rattle.machine.specs.Range.{table_of}
-use Rattle.machine.specs.TurnLaws.{effect_3}
+use Rattle.machine.proofs.TurnLaws.{effect_3}
 use Rattle.machine.specs.RangeLaws.{TaskIn, range}
 use Rattle.machine.specs.Least.{least}
 use Rattle.machine.specs.LeastLaws.{least_attained}

@@ -10,7 +10,7 @@ use Rattle.machine.specs.declared.Outcome.TheVariants as outcome
 use Rattle.machine.specs.declared.Turned.{Turned}
 use Rattle.machine.specs.Setters.{task_at}
 use Rattle.machine.specs.Turn.{turn_of, move_number}
-use Rattle.machine.specs.TurnLaws.{turn_makes}
+use Rattle.machine.proofs.TurnLaws.{turn_makes}
 use Rattle.machine.specs.RangeLaws.{range}
 use Rattle.playback_text.specs.Answer.{counted_line, turn_line}
 use Rattle.playback_text.proofs.print_turn.Goals as goal

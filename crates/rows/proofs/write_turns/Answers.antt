@@ -1,6 +1,6 @@
 use Rattle.std.proofs.Common.{sym, length-take-le, arith}
 use Rattle.machine.specs.RangeLaws.{range}
-use Rattle.machine.specs.RoundLaws.{lent_there}
+use Rattle.machine.proofs.RoundLaws.{lent_there}
 use Rattle.rows.proofs.Going as at
 use Rattle.rows.proofs.write_turns.Goals as goal
 

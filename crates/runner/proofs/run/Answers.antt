@@ -6,7 +6,7 @@ use denote.Laws.{Is}
 use Rattle.machine.specs.declared.State.{State}
 use Rattle.machine.specs.contracts.State.{the_row}
 use Rattle.machine.specs.RangeLaws.{range}
-use Rattle.machine.specs.RoundLaws.{lent_there}
+use Rattle.machine.proofs.RoundLaws.{lent_there}
 use Rattle.runner.proofs.Answers.{refuses_7, refuses_8, refuses_9, refuses_10, accepts, all_tasks_lem}
 use Rattle.runner.proofs.run.Goals as goal
 

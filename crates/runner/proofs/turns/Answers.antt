@@ -1,7 +1,7 @@
 -- `runner::turns`: each goal is a law of the loop, at what the loop holds.
 use Rattle.std.proofs.Common.{◌≡◌, ◌∙◌, get_or, sym, ap, arith}
 use Rattle.machine.specs.Turn.{reason_number}
-use Rattle.machine.specs.TurnLaws.{stored, stored_is, stored_own}
+use Rattle.machine.proofs.TurnLaws.{stored, stored_is, stored_own}
 use Rattle.runner.proofs.Going as at
 use Rattle.runner.proofs.turns.Goals as goal
 use Rattle.runner.proofs.turns.Goals.{then-writes, else-writes}

@@ -13,7 +13,7 @@ use Rattle.machine.specs.Tally.{max_tally}
 use Rattle.machine.specs.Range.{Valid}
 use Rattle.machine.specs.RangeLaws.{range}
 use Rattle.machine.specs.Turn.{effect_of, outcome_of, is_moved}
-use Rattle.machine.specs.TurnLaws.{turn_step, step_outcome}
+use Rattle.machine.proofs.TurnLaws.{turn_step, step_outcome}
 use Rattle.machine.specs.Ready.{ready_from}
 use Rattle.machine.proofs.State.able.Goals as goal
 

@@ -5,7 +5,7 @@ use Rattle.counts.specs.declared.Least.{Least}
 use Rattle.counts.specs.Counts.{least_among, closes_of}
 use Rattle.machine.specs.Least.{count_of}
 use Rattle.machine.specs.RangeLaws.{range}
-use Rattle.machine.specs.RoundLaws.{lent_there, lent_least}
+use Rattle.machine.proofs.RoundLaws.{lent_there, lent_least}
 use Rattle.machine.proofs.State.closes.Goals as goal
 
 pub bounds-self-task : goal.bounds-self-task

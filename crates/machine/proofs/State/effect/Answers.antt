@@ -2,7 +2,7 @@ use Rattle.std.proofs.Common.{arith, sym}
 use Rattle.std.proofs.lemmas.List.{length-take-le}
 use Rattle.machine.specs.Turn.{effect_of}
 use Rattle.machine.specs.RangeLaws.{range}
-use Rattle.machine.specs.KeepLaws.{looked_known}
+use Rattle.machine.proofs.KeepLaws.{looked_known}
 use Rattle.machine.proofs.State.effect.Goals as goal
 
 -- the task, the one that it looks at and the table are there

@@ -10,10 +10,10 @@ use Rattle.machine.specs.Setters.{moves_at, waits_at}
 use Rattle.machine.specs.Least.{count_of}
 use Rattle.machine.specs.Range.{Valid}
 use Rattle.machine.specs.Turn.{effect_of, outcome_of, answer_of}
-use Rattle.machine.specs.TurnLaws.{stored, stored_is, step_made, step_refused}
+use Rattle.machine.proofs.TurnLaws.{stored, stored_is, step_made, step_refused}
 use Rattle.machine.specs.RangeLaws.{range}
-use Rattle.machine.specs.KeepLaws.{place_known}
-use Rattle.machine.specs.RoundLaws.{closed_is}
+use Rattle.machine.proofs.KeepLaws.{place_known}
+use Rattle.machine.proofs.RoundLaws.{closed_is}
 use Rattle.machine.proofs.State.step.Goals as goal
 
 -- the outcome is that of the effect

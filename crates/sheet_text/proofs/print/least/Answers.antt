@@ -1,7 +1,7 @@
 -- `least` meets its contract: the counts lent are those of the tasks below n.
 use Rattle.std.proofs.Common.{ap, ◌∙◌}
 use Rattle.counts.specs.declared.Least.{Least}
-use Rattle.machine.specs.RoundLaws.{lent_least}
+use Rattle.machine.proofs.RoundLaws.{lent_least}
 use Rattle.sheet_text.proofs.print.least.Goals as goal
 
 pub returns : goal.returns

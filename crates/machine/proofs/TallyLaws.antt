@@ -14,7 +14,7 @@ use Rattle.machine.specs.Tally.{max_tally, tallied}
 use Rattle.machine.specs.Range.{Valid}
 use Rattle.machine.specs.RangeLaws.{Tallies, range}
 use Rattle.machine.specs.Turn.{effect_of, turn_of, move_number, wait_number}
-use Rattle.machine.specs.TurnLaws.{move_le, wait_le, Makes, turn_makes, refused_still, waited_tallied, moved_tallied, written_tallies}
+use Rattle.machine.proofs.TurnLaws.{move_le, wait_le, Makes, turn_makes, refused_still, waited_tallied, moved_tallied, written_tallies}
 
 -- ---- what a turn adds
 

@@ -17,8 +17,8 @@ use Rattle.machine.specs.RangeLaws.{range, present}
 use Rattle.machine.specs.Least.{count_of, counts_of, least, closed_by}
 use Rattle.machine.specs.LeastLaws.{least_le, least_attained}
 use Rattle.machine.specs.Turn.{effect_of, moved_to, turn_of, closed_number}
-use Rattle.machine.specs.TurnLaws.{turn_answer, turn_moves, turn_makes, waited_tallied, moved_tallied, turn_constants, moved_n, stored_moved, turn_made, own_field, other_field}
-use Rattle.machine.specs.CountLaws.{kept_or_raised, turn_rises, turn_least}
+use Rattle.machine.proofs.TurnLaws.{turn_answer, turn_moves, turn_makes, waited_tallied, moved_tallied, turn_constants, moved_n, stored_moved, turn_made, own_field, other_field}
+use Rattle.machine.proofs.CountLaws.{kept_or_raised, turn_rises, turn_least}
 
 -- ---- the counts as they are lent
 

@@ -15,9 +15,9 @@ use Rattle.machine.specs.Setters.{task_at, moves_at, waits_at}
 use Rattle.machine.specs.Tally.{max_tally}
 use Rattle.machine.specs.Range.{shared_of, check_state, Valid}
 use Rattle.machine.specs.Turn.{effect_of, turn_of, reason_number}
-use Rattle.machine.specs.TurnLaws.{turn_checked, turn_unknown, effect_does, Full, refusal_acts}
+use Rattle.machine.proofs.TurnLaws.{turn_checked, turn_unknown, effect_does, Full, refusal_acts}
 use Rattle.machine.specs.RangeLaws.{range}
-use Rattle.machine.specs.TallyLaws.{moves_limit, waits_limit}
+use Rattle.machine.proofs.TallyLaws.{moves_limit, waits_limit}
 
 -- an answer that is no refusal
 abbrev pub Goes : Outcome → Type 0

@@ -14,7 +14,7 @@ use Rattle.machine.specs.declared.Outcome.TheVariants.{Made, Refused}
 use Rattle.machine.specs.Setters.{task_at, with_task}
 use Rattle.machine.specs.Range.{shared_of}
 use Rattle.machine.specs.Turn.{effect_of, written, answer_of, applied, turn_of}
-use Rattle.machine.specs.TurnLaws.{by_turn, effect_does, step_state, turn_constants, own_field, other_field}
+use Rattle.machine.proofs.TurnLaws.{by_turn, effect_does, step_state, turn_constants, own_field, other_field}
 use Rattle.machine.specs.RangeLaws.{range, present}
 use Rattle.machine.specs.Least.{least}
 use Rattle.machine.specs.LeastLaws.{least_le, least_attained}

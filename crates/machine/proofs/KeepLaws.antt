@@ -37,7 +37,7 @@ use Rattle.lines.specs.Centralized.{centralized_line}
 use Rattle.lines.specs.Words.{place_of}
 use Rattle.lines.specs.LineLaws.{by_kind, by_symmetric, by_increment, by_ring, by_tree, by_centralized, Does, keeps, raises, stays, refused_7, refused_11}
 use Rattle.machine.specs.Turn.{effect_of, written, moved_to, applied, turn_of}
-use Rattle.machine.specs.TurnLaws.{effect_does, Makes, turn_makes, turn_applied, written_tallies, moved_n, put_same, put_other}
+use Rattle.machine.proofs.TurnLaws.{effect_does, Makes, turn_makes, turn_applied, written_tallies, moved_n, put_same, put_other}
 use Rattle.machine.specs.RangeLaws.{TaskIn, Tallies, InRange, range, valid, present}
 
 -- ---- storing keeps the range
