@@ -25,37 +25,37 @@ changed place byte = set sheet_trace place byte
 
 -- a trace that differs at k, with the state after the turns before
 abbrev pub DiffersAt : List ℕ → ℕ → Type 0
-DiffersAt trace k = plays trace ≡ record { state = after (fresh 1 2 0 []) (take k sheet_turns); verdict = Differs k }
+DiffersAt trace k = ((plays trace).verdict ≡ Differs k) × ((plays trace).state ≡ after (fresh 1 2 0 []) (take k sheet_turns))
 
 pub record PlayedBack : Type 0 where
   -- it agrees, with the end state; so does no triple at all, with the fresh state
-  pub sheet : plays sheet_trace ≡ record { state = after (fresh 1 2 0 []) sheet_turns; verdict = Agrees }
-  pub empty : plays [] ≡ record { state = fresh 1 2 0 []; verdict = Agrees }
+  pub sheet : ((plays sheet_trace).verdict ≡ Agrees) × ((plays sheet_trace).state ≡ after (fresh 1 2 0 []) sheet_turns)
+  pub empty : ((plays []).verdict ≡ Agrees) × ((plays []).state ≡ fresh 1 2 0 [])
   -- each byte of the first triple, of one in the middle, the wait of task 0, and of the last; task 1 in place of task 0 also moves from 11 at first,
   -- and it is the next triple that differs then
   pub first : DiffersAt (changed 1 12) 0 × DiffersAt (changed 2 0) 0
-  pub other : plays (changed 0 1) ≡ record { state = after (fresh 1 2 0 []) (1 ∷ []); verdict = Differs 1 }
+  pub other : ((plays (changed 0 1)).verdict ≡ Differs 1) × ((plays (changed 0 1)).state ≡ after (fresh 1 2 0 []) (1 ∷ []))
   pub middle : DiffersAt (changed 9 1) 3 × DiffersAt (changed 10 11) 3 × DiffersAt (changed 11 1) 3
   pub last : DiffersAt (changed 27 1) 9 × DiffersAt (changed 28 11) 9 × DiffersAt (changed 29 0) 9
   -- a task of N, an outcome of 2
   pub unknown : DiffersAt (changed 0 2) 0 × DiffersAt (changed 27 2) 9
   pub outcome : DiffersAt (changed 2 2) 0 × DiffersAt (changed 29 2) 9
   -- 14; before it the fresh state's own, 12 here; and zeros
-  pub rest : plays (take 29 sheet_trace) ≡ record { state = zero_state; verdict = Refused 14 }
-  pub order : plays_started (take 29 sheet_trace) ≡ record { state = zero_state; verdict = Refused 12 }
+  pub rest : ((plays (take 29 sheet_trace)).verdict ≡ Refused 14) × ((plays (take 29 sheet_trace)).state ≡ zero_state)
+  pub order : ((plays_started (take 29 sheet_trace)).verdict ≡ Refused 12) × ((plays_started sheet_trace).state ≡ zero_state)
 
 pub played : PlayedBack
 unfolding computing triples_of play_from play_reason play_of
 played =
     record {
-      sheet = refl;
-      empty = refl;
-      first = (refl, refl);
-      other = refl;
-      middle = (refl, refl, refl);
-      last = (refl, refl, refl);
-      unknown = (refl, refl);
-      outcome = (refl, refl);
-      rest = refl;
-      order = refl;
+      sheet = (refl, refl);
+      empty = (refl, refl);
+      first = ((refl, refl), (refl, refl));
+      other = (refl, refl);
+      middle = ((refl, refl), (refl, refl), (refl, refl));
+      last = ((refl, refl), (refl, refl), (refl, refl));
+      unknown = ((refl, refl), (refl, refl));
+      outcome = ((refl, refl), (refl, refl));
+      rest = (refl, refl);
+      order = (refl, refl);
     }
