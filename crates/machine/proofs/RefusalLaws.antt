@@ -52,15 +52,18 @@ module _ (s : State) (p : ℕ) (ok : Valid s) (h : p < s.n) where
   full_why (Refuses k) a full = absurd full
 
   -- a turn of a known task is refused only for one of these
-  pub turn_why : (k : ℕ) → (turn_of s p).outcome ≡ Refused k → Why s p k
-  turn_why k e = go (refusal_acts s p k ok h e)
+  turn_met : (k : ℕ) → (turn_of s p).outcome ≡ Refused k → Why s p k
+  turn_met k e = go (refusal_acts s p k ok h e)
     where
       go : ((effect_of s p).act ≡ Refuses k) ⊎ ((k ≡ 13) × Full (effect_of s p).act (moves_at s p) (waits_at s p)) → Why s p k
       go (inl a) = line_why k a
       go (inr w) = subst (Why s p) (sym w.0) (full_why (effect_of s p).act refl w.1)
 
+pub turn_why : (s : State) (p k : ℕ) → Valid s → p < s.n → (turn_of s p).outcome ≡ Refused k → Why s p k
+turn_why s p k ok h e = turn_met s p ok h k e
+
 pub turn_refusals : (s : State) (p k : ℕ) → Valid s → p < s.n → (turn_of s p).outcome ≡ Refused k → (k ≡ 7) ⊎ ((k ≡ 11) ⊎ (k ≡ 13))
-turn_refusals s p k ok h e = go (turn_why s p ok h k e)
+turn_refusals s p k ok h e = go (turn_why s p k ok h e)
   where
     go : {j : ℕ} → Why s p j → (j ≡ 7) ⊎ ((j ≡ 11) ⊎ (j ≡ 13))
     go (seven l all) = inl refl
@@ -95,7 +98,7 @@ turn_goes s p ok h low room_m room_w none = go (turn_of s p).outcome refl
 
     go : (o : Outcome) → (turn_of s p).outcome ≡ o → Goes o
     go (Made how) e = tt
-    go (Refused k) e = absurd (because (turn_why s p ok h k e) e)
+    go (Refused k) e = absurd (because (turn_why s p k ok h e) e)
 
 -- 7 at a turn of a known task, in a state in range, is the line's own
 pub seven_acts : (s : State) (p : ℕ) → Valid s → p < s.n → reason_number (turn_of s p).outcome ≡ 7 → (effect_of s p).act ≡ Refuses 7
@@ -130,7 +133,7 @@ seven_arrives s p ok e = arrived_counts (shared_of s) (seven_arrived s p ok e)
 -- 13: a move meets it where its task's tally of moves is at the limit, a wait where its tally of waits is, and neither for the other
 pub turn_13 : (s : State) (p : ℕ) → Valid s → p < s.n → (turn_of s p).outcome ≡ Refused 13
     → (((effect_of s p).act ≡ Moves) × (moves_at s p ≡ max_tally)) ⊎ (((effect_of s p).act ≡ Waits) × (waits_at s p ≡ max_tally))
-turn_13 s p ok h e = go 13 refl (turn_why s p ok h 13 e)
+turn_13 s p ok h e = go 13 refl (turn_why s p 13 ok h e)
   where
     go : (k : ℕ) → k ≡ 13 → Why s p k
         → (((effect_of s p).act ≡ Moves) × (moves_at s p ≡ max_tally)) ⊎ (((effect_of s p).act ≡ Waits) × (waits_at s p ≡ max_tally))
