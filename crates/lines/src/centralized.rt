@@ -5,6 +5,7 @@ ghost use Rattle.lines.specs.Centralized as defs;
 use crate::{Effect, Task, Write, common};
 
 // 12: the task's sense is the one that the round ends with.
+#[inline(always)]
 fn line12(mut task: Task) -> Effect
     ensures { result ≡ defs.centralized12 task }
 {
@@ -13,6 +14,7 @@ fn line12(mut task: Task) -> Effect
 }
 
 // 13: the task arrives, which is refused for reason 7 where all have arrived already.
+#[inline(always)]
 fn line13(arrivals: u8, task: Task) -> Effect
     ensures { result ≡ defs.centralized13 arrivals task }
 {
@@ -25,6 +27,7 @@ fn line13(arrivals: u8, task: Task) -> Effect
 }
 
 // 14: all n tasks are to arrive again.
+#[inline(always)]
 fn line14(n: u8, mut task: Task) -> Effect
     ensures { result ≡ defs.centralized14 n task }
 {
@@ -33,6 +36,7 @@ fn line14(n: u8, mut task: Task) -> Effect
 }
 
 // 15: the shared sense turns to the task's own.
+#[inline(always)]
 fn line15(mut task: Task) -> Effect
     ensures { result ≡ defs.centralized15 task }
 {
@@ -41,6 +45,7 @@ fn line15(mut task: Task) -> Effect
 }
 
 // 16: awaits that the shared sense is the task's own.
+#[inline(always)]
 fn line16(sense: u8, task: Task) -> Effect
     ensures { result ≡ defs.centralized16 sense task }
 {
@@ -49,6 +54,7 @@ fn line16(sense: u8, task: Task) -> Effect
 
 // What the line does.
 #[tactic(auto, unfolding(crate::specs::Centralized::centralized_line))]
+#[inline(always)]
 pub fn line(line: u8, n: u8, arrivals: u8, sense: u8, task: Task) -> Effect
     ensures { result ≡ defs.centralized_line line n arrivals sense task }
 {

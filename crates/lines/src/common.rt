@@ -64,6 +64,7 @@ pub(crate) fn awaits(condition: bool, task: Task, effect: Effect) -> Effect
 }
 
 // The move of a task to `next`, in which its count rises by 1; refused 11 where the count is at its limit.
+#[inline(always)]
 pub(crate) fn counts(task: Task, mut next: Task, write: Write) -> Effect
     ensures { result ≡ defs.counts task (defs.moves (with_count next (task.count + 1)) write) }
 {

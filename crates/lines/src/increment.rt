@@ -5,6 +5,7 @@ ghost use Rattle.lines.specs.Increment as defs;
 use crate::{Effect, Task, Write, common};
 
 // 12: the aim is the sense that the round ends with.
+#[inline(always)]
 fn line12(sense: u8, mut task: Task) -> Effect
     ensures { result ≡ defs.increment12 sense task }
 {
@@ -13,6 +14,7 @@ fn line12(sense: u8, mut task: Task) -> Effect
 }
 
 // 13: the task arrives, which is refused for reason 7 where all have arrived already.
+#[inline(always)]
 fn line13(n: u8, arrivals: u8, task: Task) -> Effect
     ensures { result ≡ defs.increment13 n arrivals task }
 {
@@ -26,6 +28,7 @@ fn line13(n: u8, arrivals: u8, task: Task) -> Effect
 }
 
 // 14: the arrivals are cleared.
+#[inline(always)]
 fn line14(mut task: Task) -> Effect
     ensures { result ≡ defs.increment14 task }
 {
@@ -34,6 +37,7 @@ fn line14(mut task: Task) -> Effect
 }
 
 // 15: the sense turns to the aim.
+#[inline(always)]
 fn line15(mut task: Task) -> Effect
     ensures { result ≡ defs.increment15 task }
 {
@@ -42,6 +46,7 @@ fn line15(mut task: Task) -> Effect
 }
 
 // 16: awaits that the sense is the aim.
+#[inline(always)]
 fn line16(sense: u8, task: Task) -> Effect
     ensures { result ≡ defs.increment16 sense task }
 {
@@ -50,6 +55,7 @@ fn line16(sense: u8, task: Task) -> Effect
 
 // What the line does.
 #[tactic(auto, unfolding(crate::specs::Increment::increment_line))]
+#[inline(always)]
 pub fn line(line: u8, n: u8, arrivals: u8, sense: u8, task: Task) -> Effect
     ensures { result ≡ defs.increment_line line n arrivals sense task }
 {

@@ -23,6 +23,7 @@ fn next_task(n: u8, p: usize) -> usize
 }
 
 // 12: awaits that the toggle has come.
+#[inline(always)]
 fn line12(p: usize, task: Task) -> Effect
     ensures { result ≡ defs.ring12 p task }
 {
@@ -30,6 +31,7 @@ fn line12(p: usize, task: Task) -> Effect
 }
 
 // 13: hands it on to the next task.
+#[inline(always)]
 fn line13(n: u8, p: usize, task: Task) -> Effect
     ensures { result ≡ defs.ring13 n p task }
 {
@@ -39,6 +41,7 @@ fn line13(n: u8, p: usize, task: Task) -> Effect
 }
 
 // 14: awaits that it has gone again, once round the ring.
+#[inline(always)]
 fn line14(p: usize, task: Task) -> Effect
     ensures { result ≡ defs.ring14 p task }
 {
@@ -46,6 +49,7 @@ fn line14(p: usize, task: Task) -> Effect
 }
 
 // 15: hands that on to the next task.
+#[inline(always)]
 fn line15(n: u8, p: usize, mut task: Task) -> Effect
     ensures { result ≡ defs.ring15 n p task }
 {
@@ -55,6 +59,7 @@ fn line15(n: u8, p: usize, mut task: Task) -> Effect
 
 // What the line does.
 #[tactic(auto, unfolding(crate::specs::Ring::ring_line))]
+#[inline(always)]
 pub fn line(line: u8, n: u8, p: usize, task: Task) -> Effect
     ensures { result ≡ defs.ring_line line n p task }
 {

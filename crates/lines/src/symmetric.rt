@@ -15,6 +15,7 @@ fn next_tag(modulus: u8, old: u8) -> u8
 }
 
 // 12: the tag goes on to the next, and every task is listed.
+#[inline(always)]
 fn line12(n: u8, modulus: u8, task: Task) -> Effect
     ensures { result ≡ defs.symmetric12 n modulus task }
 {
@@ -27,6 +28,7 @@ fn line12(n: u8, modulus: u8, task: Task) -> Effect
 }
 
 // 13: the first task of the list from the own start on is looked at next; back to work when nobody is left.
+#[inline(always)]
 fn line13(task: Task) -> Effect
     ensures { result ≡ defs.symmetric13 task }
 {
@@ -34,6 +36,7 @@ fn line13(task: Task) -> Effect
 }
 
 // 14: awaits that the looked-at task's tag is another than the own old one.
+#[inline(always)]
 fn line14(tag: u8, task: Task) -> Effect
     ensures { result ≡ defs.symmetric14 tag task }
 {
@@ -42,6 +45,7 @@ fn line14(tag: u8, task: Task) -> Effect
 
 // What the line does. `tag` is that of the looked-at task.
 #[tactic(auto, unfolding(crate::specs::Symmetric::symmetric_line))]
+#[inline(always)]
 pub fn line(line: u8, n: u8, modulus: u8, tag: u8, task: Task) -> Effect
     ensures { result ≡ defs.symmetric_line line n modulus tag task }
 {

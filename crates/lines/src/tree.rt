@@ -8,6 +8,7 @@ use crate::{Effect, Task, Write, common};
 
 // 11  NCS ;
 // Own work.
+#[inline(always)]
 fn line11(task: Task) -> Effect
     ensures { result ≡ defs.tree11 task }
 {
@@ -16,6 +17,7 @@ fn line11(task: Task) -> Effect
 
 // 12  lis_p := children(p) ;
 // The own children are looked for here and at 17 alone.
+#[inline(always)]
 fn line12(table: &[u8], p: usize, mut task: Task) -> Effect
     ensures { result ≡ defs.tree12 table.now p task }
 {
@@ -25,6 +27,7 @@ fn line12(table: &[u8], p: usize, mut task: Task) -> Effect
 
 // 13  while exists kk_p in lis_p do
 // The least child of the list is looked at next; on to 15 when all have been seen.
+#[inline(always)]
 fn line13(task: Task) -> Effect
     ensures { result ≡ defs.tree13 task }
 {
@@ -33,6 +36,7 @@ fn line13(task: Task) -> Effect
 
 // 14    await (aa[kk_p]) ; remove kk_p from lis_p endwhile ;
 // The flag of the looked-at child is left as it is.
+#[inline(always)]
 fn line14(flag: u8, task: Task) -> Effect
     ensures { result ≡ defs.tree14 flag task }
 {
@@ -41,6 +45,7 @@ fn line14(flag: u8, task: Task) -> Effect
 
 // 15  if p != 0 then aa[p] := true else rear := allthreads endif ; cnt_p ++ ;
 // The root has no parent that would see its flag.
+#[inline(always)]
 fn line15(p: usize, task: Task) -> Effect
     ensures { result ≡ defs.tree15 p task }
 {
@@ -54,6 +59,7 @@ fn line15(p: usize, task: Task) -> Effect
 
 // 16  await (p = 0 or not aa[p]) ;
 // The parent clears the flag.
+#[inline(always)]
 fn line16(p: usize, task: Task) -> Effect
     ensures { result ≡ defs.tree16 p task }
 {
@@ -61,6 +67,7 @@ fn line16(p: usize, task: Task) -> Effect
 }
 
 // 17  lis_p := children(p) ;
+#[inline(always)]
 fn line17(table: &[u8], p: usize, mut task: Task) -> Effect
     ensures { result ≡ defs.tree17 table.now p task }
 {
@@ -70,6 +77,7 @@ fn line17(table: &[u8], p: usize, mut task: Task) -> Effect
 
 // 18  while exists k in lis_p do aa[k] := false ; remove k from lis_p endwhile ; remove p from rear
 // One child a turn, the least of the list; back to work when none is left.
+#[inline(always)]
 fn line18(mut task: Task) -> Effect
     ensures { result ≡ defs.tree18 task }
 {
@@ -83,6 +91,7 @@ fn line18(mut task: Task) -> Effect
 
 // What the lines 11 to 13 do.
 #[tactic(auto, unfolding(crate::specs::Tree::tree_gather))]
+#[inline(always)]
 pub fn gather(line: u8, table: &[u8], p: usize, task: Task) -> Effect
     ensures { result ≡ defs.tree_gather line table.now p task }
 {
@@ -96,6 +105,7 @@ pub fn gather(line: u8, table: &[u8], p: usize, task: Task) -> Effect
 
 // What the lines 14 to 16 do. `flag` is that of the looked-at task.
 #[tactic(auto, unfolding(crate::specs::Tree::tree_meet))]
+#[inline(always)]
 pub fn meet(line: u8, p: usize, flag: u8, task: Task) -> Effect
     ensures { result ≡ defs.tree_meet line p flag task }
 {
@@ -109,6 +119,7 @@ pub fn meet(line: u8, p: usize, flag: u8, task: Task) -> Effect
 
 // What the lines 17 and 18 do.
 #[tactic(auto, unfolding(crate::specs::Tree::tree_release))]
+#[inline(always)]
 pub fn release(line: u8, table: &[u8], p: usize, task: Task) -> Effect
     ensures { result ≡ defs.tree_release line table.now p task }
 {
@@ -120,6 +131,7 @@ pub fn release(line: u8, table: &[u8], p: usize, task: Task) -> Effect
 }
 
 // What the line does, by the three parts. `flag` is that of the looked-at task.
+#[inline(always)]
 pub fn line(line: u8, table: &[u8], p: usize, flag: u8, task: Task) -> Effect
     ensures { result ≡ defs.tree_line line table.now p flag task }
 {
