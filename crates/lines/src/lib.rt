@@ -16,8 +16,8 @@ mod words;
 pub const MAX_COUNT: u32 = 1_000_000;
 
 // A task of the barrier. Which fields a kind uses is said with their ranges, in setup's specs/Range.antt; the others are 0. The order of the
-// fields is chosen for the run: with a gap of 1 byte the compiler keeps a task in registers (5 would put it through memory), and in this order every
-// line is cheap enough to be inlined into the loop, which `bench/check` looks at. docs/changes/P6.md has what other orders cost.
+// fields is chosen for the run: with a gap of 1 byte the compiler keeps a task in registers (5 would put it through memory), and every
+// line is inlined into the loop, by the hints before its pieces, which `bench/check` looks at. docs/changes/P6.md has what other orders cost.
 #[derive(Clone, Copy)]
 pub struct Task {
     pub aim: u8,
