@@ -1,1 +1,2 @@
-// Cases worked out by hand from the papers, over the definitions that the contracts cite: specs only.
+// Cases worked out by hand from the papers, over the definitions that the contracts cite: there is no code here.
+#![tactic(auto)]

@@ -1,1 +1,2 @@
-// The laws of the barrier that counts down: specs only.
+// The laws of the barrier that counts down: there is no code here.
+#![tactic(auto)]

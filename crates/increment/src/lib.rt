@@ -1,1 +1,2 @@
-// The laws of the increment barrier: specs only.
+// The laws of the increment barrier: there is no code here.
+#![tactic(auto)]

@@ -9,3 +9,4 @@ pub mod Centralized
 pub mod Words
 pub mod Rule
 pub mod LineLaws
+pub mod CountingLaws

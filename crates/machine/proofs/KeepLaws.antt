@@ -381,8 +381,8 @@ place_known s p ok h = go (effect_of s p) (effect_does s p) (good_effect s p (ra
     at (Flag q x) ok = ok.0
 
     go : (e : Effect) → Does (shared_of s) (task_at s p) e → GoodEffect s p e → place_of e.write p < s.n
-    go _ (keeps {u} {w} l c) g = at w g.1
-    go _ (raises {u} {w} l low c) g = at w g.1
+    go _ (keeps {u} {w} c) g = at w g.1
+    go _ (raises {u} {w} l c) g = at w g.1
     go _ stays g = h
-    go _ (refused_7 l all) g = h
-    go _ (refused_11 l high) g = h
+    go _ (refused_7 k) g = h
+    go _ (refused_11 l) g = h

@@ -22,6 +22,7 @@ use Rattle.lines.specs.Tree.{tree_line}
 use Rattle.lines.specs.Centralized.{centralized_line}
 use Rattle.lines.specs.Rule.{effect_from}
 use Rattle.lines.specs.Words.{writes, arrivals_after, sense_after, place_of, task_after}
+use Rattle.lines.specs.CountingLaws.{DoesAt, does_at}
 use Rattle.lines.specs.LineLaws.{Does, keeps, raises, stays, refused_7, refused_11, does, Kept, kept}
 use Rattle.machine.specs.declared.State.{State}
 use Rattle.machine.specs.declared.Move.{Move}
@@ -97,6 +98,10 @@ module _ (s : State) (p : ℕ) where
   pub effect_does : Does (shared_of s) own (effect_of s p)
   unfolding effect_of
   effect_does = does (shared_of s) (table_of s) p own seen
+
+  pub effect_does_at : DoesAt (shared_of s) own (effect_of s p)
+  unfolding effect_of
+  effect_does_at = does_at (shared_of s) (table_of s) p own seen
 
 -- a turn that is made is a move or a wait, by its numbers: each is 1 at most, and both together are 1
 pub move_le : (how : Move) → move_number how ≤ 1
@@ -337,14 +342,14 @@ applied_stored s p e d (Moved c) act =
   where
     moved : State
     moved = moved_to s p e.task e.write
-applied_stored s p _ (keeps l c) Waited act = let z : ◌≡◌ {A = ℕ} 0 1 = cc in absurd (omega arith)
-applied_stored s p _ (raises l low c) Waited act = let z : ◌≡◌ {A = ℕ} 0 1 = cc in absurd (omega arith)
+applied_stored s p _ (keeps c) Waited act = let z : ◌≡◌ {A = ℕ} 0 1 = cc in absurd (omega arith)
+applied_stored s p _ (raises l c) Waited act = let z : ◌≡◌ {A = ℕ} 0 1 = cc in absurd (omega arith)
 applied_stored s p _ stays Waited act =
     ap (λ (l : List ℕ). with_moves (wait_tallied s p) l) (sym (tallied_0 s.moves p))
     ∙ ap (λ (ts : List Task). with_tasks (with_waits (with_moves s (tallied s.moves p 0)) (tallied s.waits p 1)) ts)
     (sym (set-get_or (set s.tasks p (task_at s p)) p zero_task ∙ set-get_or s.tasks p zero_task))
-applied_stored s p _ (refused_7 l all) Waited act = let z : ◌≡◌ {A = ℕ} 0 1 = cc in absurd (omega arith)
-applied_stored s p _ (refused_11 l high) Waited act = let z : ◌≡◌ {A = ℕ} 0 1 = cc in absurd (omega arith)
+applied_stored s p _ (refused_7 k) Waited act = let z : ◌≡◌ {A = ℕ} 0 1 = cc in absurd (omega arith)
+applied_stored s p _ (refused_11 l) Waited act = let z : ◌≡◌ {A = ℕ} 0 1 = cc in absurd (omega arith)
 
 -- a turn that is made stores all that its effect has
 pub step_made : (s : State) (p : ℕ) (how : Move) → answer_of s p (effect_of s p) ≡ Made how

@@ -1,1 +1,2 @@
-// The counting argument of the progress rule, over any machine: specs only.
+// The counting argument of the progress rule, over any machine: there is no code here.
+#![tactic(auto)]

@@ -6,8 +6,7 @@ ghost use Rattle.std.specs.Prelude.{◌≡◌, ◌∷◌, ◌++◌, false, ℕ, 
 ghost use Rattle.machine.specs.Range.{Valid};
 ghost use Rattle.runner.specs.Trace.{nothing, trace_of};
 ghost use Rattle.runner.specs.Run.{log_of};
-ghost use Rattle.lines.specs.Rule.{counting_line};
-ghost use Rattle.rows.specs.Counting.{rise_at, least_after};
+ghost use Rattle.rows.specs.Counting.{counting_line, rise_at, least_after};
 ghost use Rattle.rows.specs.Rows as defs;
 
 use counts::Least;

@@ -10,7 +10,7 @@ use Rattle.snapshot.specs.Snapshot.{size, load_of}
 use Rattle.numbers.specs.Numbers.{turn_number, turn_closed}
 use Rattle.guarantee.specs.Calls as calls
 use Rattle.guarantee.specs.Calls.{Call}
-use Rattle.tungwaff.specs.Entry.{RunNumbers, numbers_of, turn_told, resume_told, rows_told}
+use Rattle.tungwaff.specs.Entry.{RunNumbers, numbers_of, kept_in, tasks_ran, rows_ran, kept_after, turn_list, turn_told, resume_told, rows_told}
 
 -- a call of tungwaff_turn, tungwaff_resume or tungwaff_rows: a task; or a schedule, an allowance, a log and a list for the tasks' or turns' numbers
 pub data Step : Type 0 where
@@ -22,9 +22,9 @@ pub data Step : Type 0 where
 
 -- the list after it, as the contract of the exported function has it
 abbrev pub list_after : List ℕ → Step → List ℕ
-list_after list (turn p) = (turn_told list p).list
-list_after list (resume schedule allowance log tasks) = (resume_told list schedule allowance log tasks).list
-list_after list (rows schedule allowance log numbers) = (rows_told list schedule allowance log numbers).list
+list_after list (turn p) = turn_list list p
+list_after list (resume schedule allowance log tasks) = kept_after (tasks_ran (kept_in list) schedule allowance log tasks) list
+list_after list (rows schedule allowance log numbers) = kept_after (rows_ran (kept_in list) schedule allowance log numbers) list
 
 -- and after several, each of which is lent the list that the one before it left
 unfoldable pub list_after_all : List ℕ → List Step → List ℕ

@@ -1,1 +1,2 @@
-// The laws of the symmetric barrier: specs only.
+// The laws of the symmetric barrier: there is no code here.
+#![tactic(auto)]

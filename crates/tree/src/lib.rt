@@ -1,1 +1,2 @@
-// The laws of the tree barrier: specs only.
+// The laws of the tree barrier: there is no code here.
+#![tactic(auto)]

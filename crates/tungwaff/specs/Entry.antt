@@ -214,7 +214,8 @@ abbrev pub verdict_told : Verdict → PlayAnswer
 verdict_told verdict = record { reason = verdict_reason verdict; agrees = verdict_agrees verdict; index = verdict_index verdict }
 
 abbrev pub play_told : Inputs → List ℕ → PlayAnswer
-play_told i trace = verdict_told (play_of i trace).verdict
+play_told i trace = let verdict = (play_of i trace).verdict in
+    record { reason = verdict_reason verdict; agrees = verdict_agrees verdict; index = verdict_index verdict }
 
 -- `tungwaff_play_state`, with the list that the play-back's state is saved to
 pub record PlayStateAnswer : Type 0 where
