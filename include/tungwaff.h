@@ -40,13 +40,13 @@
  *
  * Stack
  *
- * What a call needs, in KiB, rounded up: measured with an older kit (rattle-kit-5b-plain), N 64, every table and the longest input, the most over all kinds. It isn't proved,
+ * What a call needs, in KiB, rounded up: measured with N 64, every table and the longest input, the most over all kinds. It isn't proved,
  * and a library that another compiler built may need more.
  *
- *     sheet 276    play       37    run    28    limit       1
- *     read  167    play_state 37    resume 28    passes      1
- *     turn   16    fresh      10    rows   21    first_pass  1
- *     ready   9                                  shape       1
+ *     sheet 276    play       38    run    32    limit       1
+ *     read  167    play_state 38    resume 30    passes      1
+ *     turn   14    fresh      10    rows   18    first_pass  1
+ *     ready  11                                  shape       1
  *
  * memcpy, memmove and memset are in it, but not what a dynamic linker needs where it looks them up only when they are first called.
  */
