@@ -43,10 +43,10 @@
  * What a call needs, in KiB, rounded up: measured with N 64, every table and the longest input, the most over all kinds. It isn't proved,
  * and a library that another compiler built may need more.
  *
- *     sheet 276    play       38    run    32    limit       1
- *     read  167    play_state 38    resume 30    passes      1
- *     turn   14    fresh      10    rows   18    first_pass  1
- *     ready  11                                  shape       1
+ *     sheet 280    play       45    run    41    limit       1
+ *     read  167    play_state 45    resume 39    passes      1
+ *     turn   27    fresh       9    rows   31    first_pass  1
+ *     ready  16                                  shape       1
  *
  * memcpy, memmove and memset are in it, but not what a dynamic linker needs where it looks them up only when they are first called.
  */
@@ -316,7 +316,7 @@ size_t tungwaff_first_pass(size_t n, const uint8_t *schedule, size_t schedule_le
 
 /* Tells the bound: so many passes of turns that are made raise the least count, from every state that a fresh one has led to and whose
  * least count is below 1,000,000. Through the calls of a state list: where the turns of `turn`, `resume` and `rows` that count can be cut
- * into so many parts that each name every task, the least count in the list has risen (`session-raises` in crates/session). A turn
+ * into so many parts that each name every task, the least count in the list has risen (`session_raises` in crates/session). A turn
  * counts where its reason is DONE or COUNT_LIMIT; of a schedule the first `turns` count, and the next one too where the reason is
  * COUNT_LIMIT.
  *

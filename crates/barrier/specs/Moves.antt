@@ -1,5 +1,5 @@
 -- Turns over views, for every barrier: what a turn that moves leaves, and that every other leaves the view.
-use Rattle.std.specs.Prelude.{◌≡◌, refl, ◌≢◌, ℕ, ◌<◌, ltb}
+use Rattle.std.specs.Prelude.{◌≡◌, refl, ◌≢◌, ℕ, ◌<◌, ltb, Ok, Err}
 use Rattle.std.proofs.Common.{sym, ap, ◌∙◌, subst}
 use Rattle.std.proofs.Math.Decide.{ℕ_discrete}
 use Rattle.bitset.specs.ChoiceLaws.{by_test}
@@ -8,8 +8,7 @@ use Rattle.lines.specs.declared.Effect.{Effect}
 use Rattle.lines.specs.Setters.{with_toggle, with_flag}
 use Rattle.machine.specs.declared.State.{State}
 use Rattle.machine.specs.declared.Move.TheVariants.{Moved, Waited}
-use Rattle.machine.specs.declared.Outcome.{Outcome}
-use Rattle.machine.specs.declared.Outcome.TheVariants.{Made, Refused}
+use Rattle.machine.specs.Answers.{Outcome}
 use Rattle.machine.specs.Setters.{task_at}
 use Rattle.machine.specs.Fresh.{Inputs, fresh_state}
 use Rattle.machine.specs.FreshLaws as laws
@@ -22,18 +21,18 @@ use Rattle.barrier.specs.View.{View, view_of, effect_at}
 use Rattle.barrier.specs.Barrier.{Able, moved, AllLeft, Holds, Barrier}
 
 -- a turn that is answered moved is one of an able task
-pub moved_able : (s : State) (p c : ℕ) → (turn_of s p).outcome ≡ Made (Moved c) → Able s p
+pub moved_able : (s : State) (p c : ℕ) → (turn_of s p).outcome ≡ Ok (Moved c) → Able s p
 moved_able s p c e = let m = turn_makes s p (Moved c) e in (m.known, m.act)
 
 -- what is shown of the view that a move leaves, and of the view before, is shown of the view after every turn: the view has no tallies
-pub by_move {ℓ} : (P : View → Type ℓ) (s : State) (p : ℕ) → P (view_of s) → ((c : ℕ) → (turn_of s p).outcome ≡ Made (Moved c) → P (view_of (moved s p)))
+pub by_move {ℓ} : (P : View → Type ℓ) (s : State) (p : ℕ) → P (view_of s) → ((c : ℕ) → (turn_of s p).outcome ≡ Ok (Moved c) → P (view_of (moved s p)))
     → P (view_of (turn_of s p).state)
 by_move P s p same moves = go (turn_of s p).outcome refl
   where
     go : (o : Outcome) → (turn_of s p).outcome ≡ o → P (view_of (turn_of s p).state)
-    go (Made (Moved c)) e = subst (λ (x : State). P (view_of x)) (sym (moved_tallied s p c e)) (moves c e)
-    go (Made Waited) e = subst (λ (x : State). P (view_of x)) (sym (waited_tallied s p e)) same
-    go (Refused k) e = subst (λ (x : State). P (view_of x)) (sym (refused_still s p k e)) same
+    go (Ok (Moved c)) e = subst (λ (x : State). P (view_of x)) (sym (moved_tallied s p c e)) (moves c e)
+    go (Ok Waited) e = subst (λ (x : State). P (view_of x)) (sym (waited_tallied s p e)) same
+    go (Err k) e = subst (λ (x : State). P (view_of x)) (sym (refused_still s p k e)) same
 
 -- after a move the own task is the effect's, and every other as it was, but for toggles and flags, which a move of another task may write
 module _ {A : Type 0} (f : Task → A) (apart : (t : Task) (x : ℕ) → (f (with_toggle t x) ≡ f t) × (f (with_flag t x) ≡ f t))

@@ -1,5 +1,5 @@
 -- What a turn of any task is to a task: its own move, or none that it sees but for its toggle and flag.
-use Rattle.std.specs.Prelude.{◌≡◌, refl, ℕ, eqb}
+use Rattle.std.specs.Prelude.{◌≡◌, refl, ℕ, eqb, Ok, Err}
 use Rattle.std.proofs.Common.{sym, ap, ◌∙◌, subst, eq-eqb, ne_eqb}
 use Rattle.std.proofs.Math.Decide.{ℕ_discrete}
 use Rattle.bitset.specs.Choice.{pick}
@@ -7,8 +7,7 @@ use Rattle.lines.specs.declared.Task.{Task}
 use Rattle.lines.specs.Setters.{with_toggle, with_flag}
 use Rattle.machine.specs.declared.State.{State}
 use Rattle.machine.specs.declared.Move.TheVariants.{Moved, Waited}
-use Rattle.machine.specs.declared.Outcome.{Outcome}
-use Rattle.machine.specs.declared.Outcome.TheVariants.{Made, Refused}
+use Rattle.machine.specs.Answers.{Outcome}
 use Rattle.machine.specs.Setters.{task_at}
 use Rattle.machine.specs.Range.{Valid}
 use Rattle.machine.specs.Turn.{effect_of, turn_of}
@@ -35,12 +34,12 @@ turns s p q ok = go (turn_of s q).outcome refl (ℕ_discrete q p)
     after r e = ap (λ (x : State). core (task_at x r)) e
 
     go : (o : Outcome) → (turn_of s q).outcome ≡ o → Dec (q ≡ p) → Turns s p q
-    go (Made (Moved c)) e (yes eq) =
+    go (Ok (Moved c)) e (yes eq) =
         let able = moved_able s q c e in
         subst (λ (x : ℕ). Turns s x q) eq
         (moves refl able (λ l. rw (e, eq-eqb q q refl)) (after q (moved_tallied s q c e) ∙ own_after core (λ t x. (refl, refl)) s q ok able))
-    go (Made (Moved c)) e (no ne) =
+    go (Ok (Moved c)) e (no ne) =
         stays (λ l. rw (e, ne_eqb q p ne))
         (after p (moved_tallied s q c e) ∙ other_after core (λ t x. (refl, refl)) s q ok (moved_able s q c e) p (λ eq. ne (sym eq)))
-    go (Made Waited) e d = stays (λ l. rw e) (after p (waited_tallied s q e))
-    go (Refused k) e d = stays (λ l. rw e) (after p (refused_still s q k e))
+    go (Ok Waited) e d = stays (λ l. rw e) (after p (waited_tallied s q e))
+    go (Err k) e d = stays (λ l. rw e) (after p (refused_still s q k e))

@@ -1,8 +1,9 @@
 // Sets of tasks 0 to 63 in a u64, a bit a task. Every function is total: a task of 64 or more is in no set, and putting it on
-// changes nothing. What each answers is defined in specs/Set.antt; the laws are in specs/SetLaws.antt.
+// changes nothing. What each answers is defined in specs/Set.antt; the laws are in specs/SetLaws.antt. A set is no struct round the u64,
+// since the definitions of the other crates have numbers for sets, as the list of a `Task`.
 #![tactic(auto)]
 
-ghost use Rattle.std.specs.Prelude.{◌≡◌, min};
+ghost use Rattle.std.specs.Prelude.{◌≡◌};
 ghost use Rattle.bitset.specs.Tasks.{is_count};
 ghost use Rattle.bitset.specs.Set.{member_of, least_of, first_from, without_of, with_of, all_of, within_of, size_of};
 
@@ -10,7 +11,7 @@ ghost use Rattle.bitset.specs.Set.{member_of, least_of, first_from, without_of, 
 pub fn is_count(n: usize) -> bool
     ensures { result ≡ is_count n }
 {
-    (1 <= n) & (n <= 64)
+    (1..=64).contains(&n)
 }
 
 // Whether the task is in the set.
@@ -23,7 +24,7 @@ pub fn member(list: u64, task: usize) -> bool
     (list >> task) % 2 == 1
 }
 
-// The least task of the set; 64 for the empty set.
+// The least task of the set; 64 for the empty set, and no `Option`, since `least_of` is a number.
 pub fn least(list: u64) -> usize
     ensures { result ≡ least_of list }
 {
@@ -31,7 +32,7 @@ pub fn least(list: u64) -> usize
 }
 
 // The first task of the set at or above the start, going round to 0 after the last; 64 for the empty set. A start of 64 or more is taken by its
-// remainder.
+// remainder. No `Option`, since `first_from` is a number.
 pub fn first(list: u64, start: usize) -> usize
     ensures { result ≡ first_from list start }
 {
@@ -85,11 +86,4 @@ pub fn size(list: u64) -> usize
     ensures { result ≡ size_of list }
 {
     u64::count_ones(list) as usize
-}
-
-// The smaller of two numbers, for the crates above, which share it.
-pub fn smaller(a: usize, b: usize) -> usize
-    ensures { result ≡ min a b }
-{
-    if a < b { a } else { b }
 }

@@ -1,11 +1,11 @@
 -- The bound of demand 3, by kind, N and the work lengths: how many passes surely raise the least count. The theorem (`guarantee`) and the
 -- call that tells the number (`limit`) both cite `promised`.
-use Rattle.std.specs.Prelude.{List, ℕ, ◌+◌, ◌-◌, ◌*◌, eqb}
+use Rattle.std.specs.Prelude.{List, ℕ, ◌+◌, ◌-◌, ◌*◌, eqb, Result}
 use Rattle.bitset.specs.Choice.{pick}
 use Rattle.bitset.specs.Sum.{sum}
+use Rattle.reason.specs.Checked as checks
 use Rattle.setup.specs.Tables.{work_of}
 use Rattle.setup.specs.Reasons.{limit_reason}
-use Rattle.bound.specs.declared.Promised.{Promised}
 
 -- demand 3: "M is N(2N+3) symmetric, 5N fetch-and-increment and ring, 10N − 3 tree": with one move of work in a round.
 -- 02, P7: "M is as for kind 1", for kind 4.
@@ -29,6 +29,11 @@ M kind n work = M₁ kind n + W n work
 abbrev pub promised : ℕ → ℕ → (ℕ → ℕ) → ℕ
 promised kind n work = 2 * M kind n work
 
+-- what a caller outside is told: 0 and the passes, or the reason that refused the call and 0
+pub record Promised : Type 0 where
+  pub reason : ℕ
+  pub passes : ℕ
+
 -- refused for the kind (2), N (3) and the work table (15); R and the other tables are not asked, since M has no part of them
 abbrev pub limit_of : ℕ → ℕ → List ℕ → Promised
 limit_of kind n works =
@@ -36,3 +41,7 @@ limit_of kind n works =
       reason = limit_reason kind n works;
       passes = pick (eqb (limit_reason kind n works) 0) (promised kind n (work_of works)) 0;
     }
+
+-- the call's answer: the passes, or the reason
+abbrev pub answered : Promised → Result ℕ ℕ
+answered p = checks.answered p.passes p.reason

@@ -3,58 +3,46 @@
 
 ghost use Rattle.std.specs.Prelude.{◌≡◌, ◌≤◌};
 ghost use Rattle.bitset.specs.Sum.{sum};
-ghost use Rattle.setup.specs.Kinds.{last_kind};
+ghost use Rattle.kind.specs.Numbers.{kind_number};
 ghost use Rattle.setup.specs.Tables.{work_of};
 ghost use Rattle.bound.specs.Bound as defs;
 
+use kind::Kind;
+use reason::Refusal;
 use setup::{reasons, tables};
 
-// What `limit` answers: 0 and the passes, or the reason that refused the call and 0.
-#[derive(Clone, Copy)]
-pub struct Promised {
-    pub reason: u8,
-    pub passes: usize,
-}
-
-// The moves of a round of a kind that there is, all tasks together, where the work of each is one move.
-fn round_moves(kind: usize, n: usize) -> usize
-    requires { (kind ≤ last_kind) × (1 ≤ n) × (n ≤ 64) }
-    ensures { (result ≡ defs.M₁ kind n) × (result ≤ 8384) }
+// The moves of a round, all tasks together, where the work of each is one move. n is a number within bounds and no type, here and below: `limit_of`
+// takes any, and `accepted_limit` gives the bounds.
+fn round_moves(kind: Kind, n: usize) -> usize
+    requires { (1 ≤ n) × (n ≤ 64) }
+    ensures { (result ≡ defs.M₁ (kind_number kind) n) × (result ≤ 8384) }
 {
-    if kind == 0 {
-        return n * (2 * n + 3);
+    match kind {
+        Kind::Symmetric => n * (2 * n + 3),
+        Kind::Tree => 10 * n - 3,
+        Kind::Increment | Kind::Ring | Kind::Centralized => 5 * n,
     }
-    if kind == 3 {
-        return 10 * n - 3;
-    }
-    5 * n
 }
 
-// The work lengths of n tasks, together.
+// The work lengths of n tasks, together. A loop: with `map` and `sum`, which was tried, the proof that the sum fits did not close.
 fn work_sum(works: &[u8], n: usize) -> usize
     requires { n ≤ 64 }
     ensures { (result ≡ sum n (work_of works.now)) × (result ≤ 16320) }
 {
     let mut all = 0;
-    let mut q = 0;
-    while q < n {
+    for q in 0..n {
         all += tables::work_of(works, q) as usize;
-        q += 1;
     }
     all
 }
 
-// The passes that demand 3 promises.
-pub fn limit(kind: usize, n: usize, works: &[u8]) -> Promised
-    ensures { result ≡ defs.limit_of kind n works.now }
+// The passes that demand 3 promises; refused for the kind (2), n (3) and the work lengths (15). The kind is a number, since `limit_of`
+// refuses one that there is not; where `limit_reason` has passed it, `try_from` refuses nothing.
+pub fn limit(kind: usize, n: usize, works: &[u8]) -> Result<usize, Refusal>
+    ensures { result ≡ defs.answered (defs.limit_of kind n works.now) }
 {
-    let reason = reasons::limit_reason(kind, n, works);
-    if reason != 0 {
-        return Promised { reason, passes: 0 };
-    }
+    reasons::limit_reason(kind, n, works)?;
+    let moves = round_moves(Kind::try_from(kind)?, n);
     let work = work_sum(works, n) - n;
-    Promised {
-        reason: 0,
-        passes: 2 * (round_moves(kind, n) + work),
-    }
+    Ok(2 * (moves + work))
 }

@@ -1,5 +1,5 @@
 -- The twelve marked cases of 01's table, one claim over the definitions that the contracts cite, shown by computation.
-use Rattle.std.specs.Prelude.{◌≡◌, refl, List, [], ◌∷◌, ◌++◌, ℕ, replicate}
+use Rattle.std.specs.Prelude.{◌≡◌, refl, List, [], ◌∷◌, ◌++◌, ℕ, replicate, Ok}
 use Rattle.setup.specs.Tables.{all_within}
 use Rattle.setup.specs.Reasons.{setup_reason}
 use Rattle.setup.specs.Range.{shared_ok, task_ok, task_zero}
@@ -14,8 +14,7 @@ use Rattle.lines.specs.Ring.{ring_line}
 use Rattle.lines.specs.Tree.{tree_gather, tree_meet, tree_release}
 use Rattle.lines.specs.Centralized.{centralized_line}
 use Rattle.machine.specs.declared.Move.TheVariants.{Moved, Waited}
-use Rattle.machine.specs.declared.Outcome.{Outcome}
-use Rattle.machine.specs.declared.Outcome.TheVariants.{Made}
+use Rattle.machine.specs.Answers.{Outcome}
 use Rattle.machine.specs.Least.{least}
 use Rattle.machine.specs.Turn.{effect_of, step_of, turn_of}
 use Rattle.counts.specs.Counts.{lowest}
@@ -23,7 +22,6 @@ use Rattle.bitset.specs.Table.{table}
 use Rattle.bitset.specs.Set.{put, within_digits, first_from}
 use Rattle.parents.specs.Shapes.{shape_table, shape_of, table_after}
 use Rattle.schedule.specs.Stretch.{names_all}
-use Rattle.schedule.specs.declared.answer.Passes.TheVariants.{Count}
 use Rattle.schedule.specs.Passes.{passes_from, pairs_from, unknown_at, passes_answer, pairs_after}
 use Rattle.parents.specs.Parents.{entries_ok, check_of, children_below}
 use Rattle.std.specs.Int.Count.{count_trailing_zeros}
@@ -59,10 +57,10 @@ outcomes s (p ∷ ts) = (turn_of s p).outcome ∷ outcomes (turn_of s p).state t
 
 -- moved, with whether it closed a round
 abbrev pub moved : ℕ → Outcome
-moved closed = Made (Moved closed)
+moved closed = Ok (Moved closed)
 
 abbrev pub waited : Outcome
-waited = Made Waited
+waited = Ok Waited
 
 -- "The sheet's input above", and the ring's ten turns
 abbrev pub sheet_end : State
@@ -101,7 +99,7 @@ pub record Marked : Type 0 where
   -- "Parents 0 1 refused 6, 0 0 accepted."
   pub parents : (reason 3 2 0 (0 ∷ 1 ∷ []) ≡ 6) × (reason 3 2 0 (0 ∷ 0 ∷ []) ≡ 0)
   -- "N 2, schedule 0 0 1 0 1 1: pairs (0, 3), (3, 2)."
-  pub pairs : (passes_answer 2 (0 ∷ 0 ∷ 1 ∷ 0 ∷ 1 ∷ 1 ∷ []) 4 ≡ Count 2)
+  pub pairs : (passes_answer 2 (0 ∷ 0 ∷ 1 ∷ 0 ∷ 1 ∷ 1 ∷ []) 4 ≡ Ok 2)
       × (pairs_after 2 (0 ∷ 0 ∷ 1 ∷ 0 ∷ 1 ∷ 1 ∷ []) (replicate 4 9) ≡ 0 ∷ 3 ∷ 3 ∷ 2 ∷ [])
   -- "N 6, binary 0 0 0 1 1 2."
   pub binary : (shape_of 2 6 6 ≡ 0) × (table_after 2 6 (replicate 6 9) ≡ 0 ∷ 0 ∷ 0 ∷ 1 ∷ 1 ∷ 2 ∷ [])

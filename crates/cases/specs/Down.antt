@@ -1,8 +1,7 @@
 -- Cases of 02's P7, worked out by hand from the papers, one claim over the definitions that the contracts cite, shown by computation.
-use Rattle.std.specs.Prelude.{◌≡◌, refl, List, [], ◌∷◌, map, ℕ, take, replicate}
+use Rattle.std.specs.Prelude.{◌≡◌, refl, List, [], ◌∷◌, map, ℕ, take, replicate, Ok, Some}
 use Rattle.lines.specs.Setters.{with_aim, with_own}
 use Rattle.machine.specs.declared.State.{State}
-use Rattle.machine.specs.declared.Ready.TheVariants.{Task}
 use Rattle.machine.specs.Setters.{task_at, with_task, with_arrivals}
 use Rattle.machine.specs.Ready.{ready_from, ready_of}
 use Rattle.parents.specs.Shapes.{shape_of}
@@ -50,7 +49,7 @@ pub record CountedDown : Type 0 where
   pub range : (outcomes (with_arrivals two 0) (0 ∷ []) ≡ moved 0 ∷ []) × (outcomes (with_arrivals two 3) (0 ∷ []) ≡ refused 7 ∷ [])
       × (outcomes (own_to two 1 0) (0 ∷ []) ≡ moved 0 ∷ []) × (outcomes (own_to two 1 2) (0 ∷ []) ≡ refused 7 ∷ []) × (outcomes (own_to two 2 1) (0 ∷ []) ≡ refused 7 ∷ [])
       × (outcomes (own_to (fresh 1 2 0 []) 1 1) (0 ∷ []) ≡ refused 7 ∷ []) × (outcomes (aim_to two 1 1) (0 ∷ []) ≡ refused 7 ∷ [])
-  pub ready : (ready_of (after two (replicate 3 0))).ready ≡ Task 1
+  pub ready : (ready_of (after two (replicate 3 0))).ready ≡ Ok (Some 1)
   -- 2 admits kind 4 and not 5; R is 0, and there are no parents and no starts; work lengths as for every kind
   pub reasons : (reason 4 2 0 [] [] [] ≡ 0) × (reason 5 2 0 [] [] [] ≡ 2) × (reason 4 2 1 [] [] [] ≡ 4) × (reason 4 2 0 (0 ∷ 0 ∷ []) [] [] ≡ 5)
       × (reason 4 2 0 [] (0 ∷ 0 ∷ []) [] ≡ 12) × (reason 4 2 0 [] [] (0 ∷ 1 ∷ []) ≡ 15) × (reason 4 2 0 [] [] (3 ∷ 1 ∷ []) ≡ 0)

@@ -1,5 +1,6 @@
 -- Cases of 02's P2, worked out by hand from the papers, one claim over the definitions that the contracts cite, shown by computation.
 use Rattle.std.specs.Prelude.{◌≡◌, refl, List, [], ◌∷◌, ℕ, length, replicate}
+use Rattle.reason.specs.Placed.{placed}
 use Rattle.lines.specs.Setters.{with_line, with_count}
 use Rattle.machine.specs.declared.State.{State}
 use Rattle.machine.specs.Setters.{task_at, with_task}
@@ -43,7 +44,7 @@ pub record Closed : Type 0 where
       × (outcomes (counts 5 5 9) (0 ∷ 1 ∷ []) ≡ moved 0 ∷ moved 1 ∷ []) × ((ran (counts 5 5 9) (0 ∷ 1 ∷ 2 ∷ [])).rounds ≡ 1)
   -- a run that 11 stops keeps the round before it; one that is refused as a whole has none
   pub stopped : ((ran near_limit (replicate 6 0)).ending ≡ Stopped 11) × ((ran near_limit (replicate 6 0)).turns ≡ 5) × ((ran near_limit (replicate 6 0)).rounds ≡ 1)
-  pub refused : ((ran near_limit (0 ∷ 1 ∷ [])).ending ≡ Refused 9 1) × ((ran near_limit (0 ∷ 1 ∷ [])).rounds ≡ 0)
+  pub refused : ((ran near_limit (0 ∷ 1 ∷ [])).ending ≡ Refused (placed 9 1)) × ((ran near_limit (0 ∷ 1 ∷ [])).rounds ≡ 0)
 
 pub closed : Closed
 unfolding computing run_of run_reason trace_of tally_in rounds_in

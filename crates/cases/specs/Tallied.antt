@@ -1,9 +1,8 @@
 -- Cases of 02's P3, worked out by hand from the papers, one claim over the definitions that the contracts cite, shown by computation.
-use Rattle.std.specs.Prelude.{◌≡◌, refl, List, [], ◌∷◌, ℕ, set, take, drop, replicate}
+use Rattle.std.specs.Prelude.{◌≡◌, refl, List, [], ◌∷◌, ℕ, set, take, drop, replicate, Ok, Err, Some, None}
+use Rattle.reason.specs.Placed.{placed}
 use Rattle.machine.specs.declared.State.{State}
-use Rattle.machine.specs.declared.Outcome.{Outcome}
-use Rattle.machine.specs.declared.Outcome.TheVariants as outcome
-use Rattle.machine.specs.declared.Ready.TheVariants.{Task, Nobody}
+use Rattle.machine.specs.Answers.{Outcome}
 use Rattle.machine.specs.Setters.{with_moves, with_waits, with_arrivals}
 use Rattle.machine.specs.Turn.{turn_of}
 use Rattle.machine.specs.Ready.{ready_from, ready_of}
@@ -25,7 +24,7 @@ abbrev pub waits_to : State → ℕ → ℕ → State
 waits_to s q x = with_waits s (set s.waits q x)
 
 abbrev pub refused : ℕ → Outcome
-refused k = outcome.Refused k
+refused k = Err k
 
 -- two tasks of the ring: task 0 can move at 12 from the start, and task 1 waits there
 abbrev pub two : State
@@ -55,15 +54,15 @@ pub record Tallied : Type 0 where
       × (outcomes (moves_to (with_arrivals (edited (fresh 1 1 0 []) 0 13 0) 1) 0 4000000000) (0 ∷ []) ≡ refused 7 ∷ [])
       × (outcomes (moves_to (edited (fresh 1 1 0 []) 0 13 1000000) 0 4000000000) (0 ∷ []) ≡ refused 11 ∷ [])
   -- ready skips a task whose tally of moves is full, and asks for no tally of waits
-  pub ready : ((ready_of two).ready ≡ Task 0) × ((ready_of (moves_to two 0 4000000000)).ready ≡ Task 1)
-      × ((ready_of (moves_to (moves_to two 0 4000000000) 1 4000000000)).ready ≡ Nobody) × ((ready_of (waits_to two 0 4000000000)).ready ≡ Task 0)
+  pub ready : ((ready_of two).ready ≡ Ok (Some 0)) × ((ready_of (moves_to two 0 4000000000)).ready ≡ Ok (Some 1))
+      × ((ready_of (moves_to (moves_to two 0 4000000000) 1 4000000000)).ready ≡ (Ok None)) × ((ready_of (waits_to two 0 4000000000)).ready ≡ Ok (Some 0))
   -- reason 13 ends a run: the turns before it are kept and logged, and that turn is neither made nor logged
   pub stopped : let s = moves_to (fresh 1 1 0 []) 0 3999999997 in
       ((ran s (replicate 5 0)).ending ≡ Stopped 13) × ((ran s (replicate 5 0)).turns ≡ 3) × ((ran s (replicate 5 0)).rounds ≡ 1)
       × (take 1 (ran s (replicate 5 0)).moves ≡ 3 ∷ []) × (take 1 (ran s (replicate 5 0)).state.moves ≡ 4000000000 ∷ [])
       × (log_after s (replicate 5 0) 5 (replicate 10 9) ≡ 11 ∷ 1 ∷ 12 ∷ 1 ∷ 13 ∷ 1 ∷ 9 ∷ 9 ∷ 9 ∷ 9 ∷ [])
   -- a run that is refused as a whole tallies nothing
-  pub whole : ((ran two (0 ∷ 2 ∷ [])).ending ≡ Refused 9 1) × ((ran two (0 ∷ 2 ∷ [])).state ≡ two)
+  pub whole : ((ran two (0 ∷ 2 ∷ [])).ending ≡ Refused (placed 9 1)) × ((ran two (0 ∷ 2 ∷ [])).state ≡ two)
 
 pub tallied : Tallied
 unfolding computing run_of run_reason log_after trace_of tally_in rounds_in log_of ready_from ready_of

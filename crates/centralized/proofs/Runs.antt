@@ -1,8 +1,7 @@
 -- Coupled states answer every run alike, and are coupled after it.
-use Rattle.std.specs.Prelude.{◌≡◌, refl, List, [], ◌∷◌, ℕ}
+use Rattle.std.specs.Prelude.{◌≡◌, refl, List, [], ◌∷◌, ℕ, Ok, Err}
 use Rattle.machine.specs.declared.State.{State}
-use Rattle.machine.specs.declared.Outcome.{Outcome}
-use Rattle.machine.specs.declared.Outcome.TheVariants.{Made, Refused}
+use Rattle.machine.specs.Answers.{Outcome}
 use Rattle.machine.specs.Turn.{turn_of}
 use Rattle.machine.proofs.TurnLaws.{turn_makes}
 use Rattle.runner.specs.Trace.{Trace, turned, trace_of}
@@ -26,9 +25,9 @@ traces {s₁} {s₄} pair (p ∷ ts) =
   where
     go : (o : Outcome) → (turn_of s₄ p).outcome ≡ o → Traced (trace_of (turn_of s₁ p).state ts) (trace_of (turn_of s₄ p).state ts)
         → Traced (turned s₁ p o (trace_of (turn_of s₁ p).state ts)) (turned s₄ p o (trace_of (turn_of s₄ p).state ts))
-    go (Made how) e r =
+    go (Ok how) e r =
         record { made = rw (same_line pair.coupled p (turn_makes s₄ p how e).known, r.made); stop = r.stop; pair = r.pair }
-    go (Refused k) e r = record { made = refl; stop = refl; pair = pair }
+    go (Err k) e r = record { made = refl; stop = refl; pair = pair }
 
 -- a run is refused as a whole for the same reason
 pub same_reason : {s₁ s₄ : State} → Pair s₁ s₄ → (schedule : List ℕ) (allowance room : ℕ) → run_reason s₁ schedule allowance room ≡ run_reason s₄ schedule allowance room

@@ -1,5 +1,5 @@
 -- Coupled states answer every turn alike, and are coupled after it.
-use Rattle.std.specs.Prelude.{◌≡◌, refl, List, ◌≢◌, ℕ, ◌≤◌, ◌<◌}
+use Rattle.std.specs.Prelude.{◌≡◌, refl, List, ◌≢◌, ℕ, ◌≤◌, ◌<◌, Ok, Err}
 use Rattle.std.proofs.Common.{sym, ap, ◌∙◌, subst, arith}
 use Rattle.std.proofs.Math.Decide.{dec_lt}
 use Rattle.lines.specs.declared.Task.{Task}
@@ -11,8 +11,7 @@ use Rattle.lines.specs.Words.{sense_after}
 use Rattle.machine.specs.declared.State.{State}
 use Rattle.machine.specs.declared.Turned.{Turned}
 use Rattle.machine.specs.declared.Move.TheVariants.{Moved, Waited}
-use Rattle.machine.specs.declared.Outcome.{Outcome}
-use Rattle.machine.specs.declared.Outcome.TheVariants.{Made, Refused}
+use Rattle.machine.specs.Answers.{Outcome}
 use Rattle.machine.specs.Setters.{task_at, with_task}
 use Rattle.machine.specs.Tally.{tallied}
 use Rattle.machine.specs.Least.{least}
@@ -115,9 +114,9 @@ module _ {s₁ s₄ : State} (pair : Pair s₁ s₄) (p : ℕ) (h : p < s₄.n) 
       same = rw (alike.act, same_least c some, same_least after_move (rw (moved_n s₄ p e₄.task e₄.write) some), c.moves, c.waits)
 
   after : (o : Outcome) → Coupled (applied o s₁ p e₁.task e₁.write) (applied o s₄ p e₄.task e₄.write)
-  after (Made (Moved closed)) = let a = after_move in let m = ap (λ (l : List ℕ). tallied l p 1) a.moves in search
-  after (Made Waited) = let a = c in let w = ap (λ (l : List ℕ). tallied l p 1) a.waits in search
-  after (Refused k) = c
+  after (Ok (Moved closed)) = let a = after_move in let m = ap (λ (l : List ℕ). tallied l p 1) a.moves in search
+  after (Ok Waited) = let a = c in let w = ap (λ (l : List ℕ). tallied l p 1) a.waits in search
+  after (Err k) = c
 
   coupled_after : Coupled (turn_of s₁ p).state (turn_of s₄ p).state
   coupled_after = rw (turn_applied s₁ p, turn_applied s₄ p, answer) (after (turn_of s₄ p).outcome)

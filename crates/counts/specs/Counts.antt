@@ -31,3 +31,7 @@ closes_of l count next = pick (not (eqb next count) && eqb count l.count && eqb 
 -- was the last, it is found anew
 abbrev pub risen_of : Least → (ℕ → ℕ) → ℕ → Least
 risen_of l f n = pick (ltb 1 l.tasks) (record { count = l.count; tasks = l.tasks - 1 }) (least_among f n)
+
+-- the least count once a task's count has gone from `count` to `next`, and the counts of n tasks are f then
+abbrev pub least_after : Least → ℕ → ℕ → (ℕ → ℕ) → ℕ → Least
+least_after l count next f n = pick (not (eqb next count) && eqb count l.count) (risen_of l f n) l

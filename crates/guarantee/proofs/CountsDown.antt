@@ -1,12 +1,11 @@
 -- 02's P7: kinds 1 and 4 show the same under every list of turns and runs, and in every play-back. The words stand in Answers.antt, and what demand 3 and
 -- ready's promise need of it beside the claim.
-use Rattle.std.specs.Prelude.{◌≡◌, refl, Bool, true, false, List, [], ◌∷◌, ℕ, suc, length, take}
+use Rattle.std.specs.Prelude.{◌≡◌, refl, Bool, true, false, List, [], ◌∷◌, ℕ, suc, length, take, Ok, Err}
 use Rattle.std.proofs.Common.{sym, ap, ◌∙◌, arith, ne_eqb}
 use Rattle.std.proofs.Math.Decide.{ℕ_discrete}
 use Rattle.bitset.specs.Choice.{pick}
 use Rattle.machine.specs.declared.State.{State}
-use Rattle.machine.specs.declared.Outcome.{Outcome}
-use Rattle.machine.specs.declared.Outcome.TheVariants.{Made, Refused}
+use Rattle.machine.specs.Answers.{Outcome}
 use Rattle.machine.specs.Fresh.{Inputs, fresh_reason, fresh_state, zero_state, fresh_of}
 use Rattle.machine.specs.FreshLaws.{fresh_accepted}
 use Rattle.machine.specs.Turn.{turn_of}
@@ -118,8 +117,8 @@ does_same : {s₁ s₄ : State} → Pair s₁ s₄ → (t : Triple) → does s�
 does_same {s₁} {s₄} pair t = ap (equals s₁ t) (turns pair t.task).0 ∙ go (turn_of s₄ t.task).outcome refl
   where
     go : (o : Outcome) → (turn_of s₄ t.task).outcome ≡ o → equals s₁ t o ≡ equals s₄ t o
-    go (Made how) e = rw (same_line pair.coupled t.task (turn_makes s₄ t.task how e).known)
-    go (Refused k) e = refl
+    go (Ok how) e = rw (same_line pair.coupled t.task (turn_makes s₄ t.task how e).known)
+    go (Err k) e = refl
 
 -- the same verdict, and coupled states with it
 abbrev PlaysSame : Played → Played → Type 0
@@ -131,7 +130,7 @@ plays_same {s₁} {s₄} pair i (t ∷ ts) =
     rw (from_triple s₁ i t ts, from_triple s₄ i t ts, does_same pair t) (go (does s₄ t) (plays_same {s₁ = (turn_of s₁ t.task).state} {s₄ = (turn_of s₄ t.task).state} (turns pair t.task).1 (suc i) ts))
   where
     go : (b : Bool) {r₁ r₄ : Played} → PlaysSame r₁ r₄
-        → PlaysSame (pick b r₁ (record { state = s₁; verdict = verdict.Differs i })) (pick b r₄ (record { state = s₄; verdict = verdict.Differs i }))
+        → PlaysSame (pick b r₁ (record { state = s₁; verdict = Ok (verdict.Differs i) })) (pick b r₄ (record { state = s₄; verdict = Ok (verdict.Differs i) }))
     go true rest = rest
     go false rest = (refl, pair)
 

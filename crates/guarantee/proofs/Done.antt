@@ -1,11 +1,10 @@
 -- When no turn of a schedule is refused: from a reached state whose counts and tallies cannot come to their limits.
-use Rattle.std.specs.Prelude.{◌≡◌, List, [], ◌∷◌, ℕ, suc, ◌+◌, ◌≤◌, ◌<◌, length, get_or}
+use Rattle.std.specs.Prelude.{◌≡◌, List, [], ◌∷◌, ℕ, suc, ◌+◌, ◌≤◌, ◌<◌, length, get_or, Ok, Err}
 use Rattle.std.proofs.Common.{ap, le_of_eq, arith}
 use Rattle.lines.specs.declared.Task.{Task}
 use Rattle.lines.specs.Common.{max_count}
 use Rattle.machine.specs.declared.State.{State}
-use Rattle.machine.specs.declared.Outcome.{Outcome}
-use Rattle.machine.specs.declared.Outcome.TheVariants.{Made, Refused}
+use Rattle.machine.specs.Answers.{Outcome}
 use Rattle.machine.specs.Setters.{task_at, moves_at, waits_at}
 use Rattle.machine.specs.Fresh.{Inputs, fresh_state, fresh_task}
 use Rattle.machine.specs.FreshLaws.{fresh_at, fresh_tally}
@@ -63,5 +62,5 @@ turns_done s (p ∷ ts) k r low room known =
     here = low p first
 
     go : (o : Outcome) → Goes o → (trace_of (turn_of s p).state ts).stop ≡ nothing → (turned s p o (trace_of (turn_of s p).state ts)).stop ≡ nothing
-    go (Made how) g e = e
-    go (Refused k) g e = absurd g
+    go (Ok how) g e = e
+    go (Err k) g e = absurd g

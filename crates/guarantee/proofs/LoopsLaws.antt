@@ -1,5 +1,5 @@
 -- The claim of 02's P5 over lists of calls holds: their counted turns are turns, and the moves that the calls answer are those of their counted turns.
-use Rattle.std.specs.Prelude.{◌≡◌, Bool, true, false, ◌&&◌, ℕ, ◌+◌, eqb, length, take}
+use Rattle.std.specs.Prelude.{◌≡◌, Bool, true, false, ◌&&◌, ℕ, ◌+◌, eqb, length, take, Ok, Err}
 use Rattle.std.proofs.Math.Path.{refl, ap}
 use Rattle.std.proofs.Common.{sym, ◌∙◌, subst, arith, eq-eqb, ne_eqb, eqb-true}
 use mathlib.Core.List.{List, [], ◌∷◌, ◌++◌}
@@ -11,8 +11,7 @@ use Rattle.parents.specs.Parents.{children_of}
 use Rattle.machine.specs.declared.State.{State}
 use Rattle.machine.specs.declared.Move.{Move}
 use Rattle.machine.specs.declared.Move.TheVariants.{Moved, Waited}
-use Rattle.machine.specs.declared.Outcome.{Outcome}
-use Rattle.machine.specs.declared.Outcome.TheVariants.{Made, Refused}
+use Rattle.machine.specs.Answers.{Outcome}
 use Rattle.machine.specs.Setters.{task_at}
 use Rattle.machine.specs.Range.{table_of, Valid}
 use Rattle.machine.specs.Turn.{turn_of, move_number, is_moved}
@@ -38,15 +37,15 @@ module _ (p line : ℕ) where
   times_append s (q ∷ ts) us = omega (arith, times_append (turn_of s q).state ts us)
 
   -- a turn that is refused moves nobody
-  still : (s : State) (q k : ℕ) → (turn_of s q).outcome ≡ Refused k → move_at p line s q ≡ 0
+  still : (s : State) (q k : ℕ) → (turn_of s q).outcome ≡ Err k → move_at p line s q ≡ 0
   still s q k e = rw e
 
   -- nor does it where it counts
-  still_counted : (s : State) (q k : ℕ) → (turn_of s q).outcome ≡ Refused k → times_at p line s (counted_turn q (Refused k)) ≡ 0
+  still_counted : (s : State) (q k : ℕ) → (turn_of s q).outcome ≡ Err k → times_at p line s (counted_turn q (Err k)) ≡ 0
   still_counted s q k e = by_test (λ (ts : List ℕ). times_at p line s ts ≡ 0) (eqb k 11) (λ _. omega (arith, still s q k e)) (λ _. refl)
 
   -- a row of a turn that was made is a move of p there, or none
-  row_move : (s : State) (q : ℕ) (how : Move) → (turn_of s q).outcome ≡ Made how
+  row_move : (s : State) (q : ℕ) (how : Move) → (turn_of s q).outcome ≡ Ok how
       → pick (eqb (move_number how) 1 && (eqb q p && eqb (task_at s q).line line)) 1 0 ≡ move_at p line s q
   row_move s q how e =
       rw e (ap (λ (b : Bool). pick (eqb (move_number how) 1 && b) 1 0) (here (eqb q p) refl) ∙ ap (λ (b : Bool). pick (b && (eqb q p && eqb (task_at s p).line line)) 1 0) (by how))
@@ -55,7 +54,7 @@ module _ (p line : ℕ) where
       here true is = ap (λ (x : ℕ). eqb (task_at s x).line line) (eqb-true q p is)
       here false is = refl
 
-      by : (how : Move) → eqb (move_number how) 1 ≡ is_moved (Made how)
+      by : (how : Move) → eqb (move_number how) 1 ≡ is_moved (Ok how)
       by (Moved c) = refl
       by Waited = refl
 
@@ -69,15 +68,15 @@ module _ (p line : ℕ) where
 
       go : (o : Outcome) → (turn_of s q).outcome ≡ o → rows_at p line rest.made ≡ times_at p line (turn_of s q).state (counted_in rest)
           → rows_at p line (turned s q o rest).made ≡ times_at p line s (counted_in (turned s q o rest))
-      go (Made how) e ih = omega (arith, row_move s q how e, ih)
-      go (Refused k) e ih = sym (still_counted s q k e)
+      go (Ok how) e ih = omega (arith, row_move s q how e, ih)
+      go (Err k) e ih = sym (still_counted s q k e)
 
   call_moved : (s : State) (c : Call) → moved_in p line s c ≡ times_at p line s (counted s c)
   call_moved s (turn q) = go (turn_of s q).outcome refl
     where
       go : (o : Outcome) → (turn_of s q).outcome ≡ o → move_at p line s q ≡ times_at p line s (counted_turn q o)
-      go (Made how) e = omega arith
-      go (Refused k) e = still s q k e ∙ sym (still_counted s q k e)
+      go (Ok how) e = omega arith
+      go (Err k) e = still s q k e ∙ sym (still_counted s q k e)
   call_moved s (run schedule allowance log) = go (ℕ_discrete reason 0)
     where
       reason : ℕ

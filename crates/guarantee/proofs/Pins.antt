@@ -4,7 +4,7 @@
 use Rattle.std.proofs.Math.Path.{◌≡◌, refl, ap}
 use Rattle.std.proofs.Common.{sym, ◌∙◌, subst, inl, inr, arith, add-zero, add-one, length-take, take-suc, take-take}
 use mathlib.Core.List.{List, [], ◌∷◌, ◌++◌, flatten, append-nil}
-use Rattle.std.specs.Prelude.{◌⊎◌, ◌≢◌, eqb, ltb, get_or, take}
+use Rattle.std.specs.Prelude.{◌⊎◌, ◌≢◌, eqb, ltb, get_or, take, Ok, Err}
 use Prim.Native.Nat.{ℕ, suc, ◌+◌, ◌≤◌, ◌<◌}
 use Rattle.std.proofs.Math.Decide.{ℕ_discrete, dec_lt}
 use Rattle.std.proofs.Math.ListN.{length}
@@ -16,7 +16,6 @@ use Rattle.schedule.specs.Stretch.{CutInto}
 use Rattle.schedule.specs.StretchLaws.{cut_pin}
 use Rattle.machine.specs.declared.State.{State}
 use Rattle.machine.specs.declared.Move.{Move}
-use Rattle.machine.specs.declared.Outcome.TheVariants.{Made, Refused}
 use Rattle.machine.specs.Setters.{task_at}
 use Rattle.machine.specs.Fresh.{Inputs, fresh_reason, fresh_of}
 use Rattle.machine.specs.FreshLaws.{fresh_reason_lem}
@@ -73,17 +72,17 @@ counted_none s = refl
 
 module _ (s : State) (p : ℕ) (cs : List Call) where
   -- "the task of each single turn answered moved, waited
-  pub counted_made : (how : Move) → (turn_of s p).outcome ≡ Made how → counted_all s (turn p ∷ cs) ≡ p ∷ counted_all (turn_of s p).state cs
+  pub counted_made : (how : Move) → (turn_of s p).outcome ≡ Ok how → counted_all s (turn p ∷ cs) ≡ p ∷ counted_all (turn_of s p).state cs
   unfolding counted_all
   counted_made how e = rw e
 
   -- or 11"
-  pub counted_11 : (turn_of s p).outcome ≡ Refused 11 → counted_all s (turn p ∷ cs) ≡ p ∷ counted_all s cs
+  pub counted_11 : (turn_of s p).outcome ≡ Err 11 → counted_all s (turn p ∷ cs) ≡ p ∷ counted_all s cs
   unfolding counted_all
   counted_11 e = rw (refused_still s p 11 e, e)
 
   -- "Nothing else counts."
-  pub uncounted : (k : ℕ) → k ≢ 11 → (turn_of s p).outcome ≡ Refused k → counted_all s (turn p ∷ cs) ≡ counted_all s cs
+  pub uncounted : (k : ℕ) → k ≢ 11 → (turn_of s p).outcome ≡ Err k → counted_all s (turn p ∷ cs) ≡ counted_all s cs
   unfolding counted_all
   uncounted k ne e = rw (refused_still s p k e, e, ne_eqb k 11 ne)
 

@@ -1,9 +1,8 @@
 -- Ready's promise: for a reached state with its least count below 1,000,000 it answers a task, neither none nor a refusal. 02, P3: it "holds where
 -- no move tally is at its limit", of tasks 0 to N − 1.
-use Rattle.std.specs.Prelude.{◌≡◌, refl, true, ◌≢◌, ℕ, ◌≤◌, ◌<◌}
+use Rattle.std.specs.Prelude.{◌≡◌, refl, true, ◌≢◌, ℕ, ◌≤◌, ◌<◌, Ok, Some}
 use Rattle.std.proofs.Common.{sym, ap, ◌∙◌, arith}
 use Rattle.machine.specs.declared.State.{State}
-use Rattle.machine.specs.declared.Ready.TheVariants.{Task}
 use Rattle.machine.specs.Setters.{moves_at}
 use Rattle.machine.specs.Tally.{max_tally}
 use Rattle.machine.proofs.TallyLaws.{moves_limit}
@@ -21,7 +20,7 @@ use Rattle.guarantee.proofs.CountsDown.{same_ready}
 use Rattle.guarantee.proofs.Reach.{Known, known_first, Stands, own, carried, stands, reached_valid}
 
 -- for a state that has its barrier's invariant
-of_known : (s : State) → Known s → least s < 1000000 → Roomy s → (p : ℕ) × ((ready_of s).ready ≡ Task p)
+of_known : (s : State) → Known s → least s < 1000000 → Roomy s → (p : ℕ) × ((ready_of s).ready ≡ Ok (Some p))
 of_known s k low roomy =
     let able = (barrier_of k.kind k.low).someone s k.inv low in
     let room : moves_at s able.0 < max_tally = below (moves_limit s able.0 k.inv.valid able.1.0) (roomy able.0 able.1.0) in
@@ -31,10 +30,10 @@ of_known s k low roomy =
     below : {x : ℕ} → x ≤ max_tally → x ≢ max_tally → x < max_tally
     below l ne = omega arith
 
-pub promise : (s : State) → Reached s → least s < 1000000 → Roomy s → (p : ℕ) × ((ready_of s).ready ≡ Task p)
+pub promise : (s : State) → Reached s → least s < 1000000 → Roomy s → (p : ℕ) × ((ready_of s).ready ≡ Ok (Some p))
 promise s reached = go (stands s reached)
   where
-    go : Stands s → least s < 1000000 → Roomy s → (p : ℕ) × ((ready_of s).ready ≡ Task p)
+    go : Stands s → least s < 1000000 → Roomy s → (p : ℕ) × ((ready_of s).ready ≡ Ok (Some p))
     go (own k) = of_known s k
     go (carried s₁ pair) = λ low roomy.
         let c = pair.coupled in

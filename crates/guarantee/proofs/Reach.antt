@@ -5,7 +5,7 @@ use Rattle.std.proofs.Common.{sym, ◌∙◌, subst, inl, inr, arith}
 use Rattle.std.proofs.Math.Decide.{dec_le}
 use Rattle.lines.specs.CountingLaws.{AllArrived}
 use Rattle.machine.specs.declared.State.{State}
-use Rattle.machine.specs.declared.Outcome.{Outcome}
+use Rattle.machine.specs.Answers.{Outcome}
 use Rattle.machine.specs.Setters.{task_at}
 use Rattle.machine.specs.Fresh.{Inputs, fresh_reason, fresh_state}
 use Rattle.machine.specs.FreshLaws.{accepted_inputs, fresh_accepted, fresh_line, fresh_valid}

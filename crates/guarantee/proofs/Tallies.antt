@@ -1,12 +1,11 @@
 -- 02, P3: each task's tallies, over every list of turns and runs. The words stand in Accepted.antt.
-use Rattle.std.specs.Prelude.{◌≡◌, List, [], ◌∷◌, map, ℕ, ◌+◌, eqb, length, take}
+use Rattle.std.specs.Prelude.{◌≡◌, List, [], ◌∷◌, map, ℕ, ◌+◌, eqb, length, take, Ok, Err}
 use Rattle.std.proofs.Common.{ap, ◌∙◌, arith, length-take, take-take}
 use Rattle.std.proofs.Math.Decide.{ℕ_discrete}
 use Rattle.bitset.specs.Choice.{pick}
 use Rattle.bitset.specs.ChoiceLaws.{by_test}
 use Rattle.machine.specs.declared.State.{State}
-use Rattle.machine.specs.declared.Outcome.{Outcome}
-use Rattle.machine.specs.declared.Outcome.TheVariants.{Made, Refused}
+use Rattle.machine.specs.Answers.{Outcome}
 use Rattle.machine.specs.Setters.{moves_at, waits_at}
 use Rattle.machine.specs.Fresh.{Inputs, fresh_reason, fresh_of}
 use Rattle.machine.specs.FreshLaws.{fresh_accepted, fresh_tally}
@@ -31,8 +30,8 @@ turn_named : (s : State) (p q : ℕ) → turns_of (turn_of s p).state q ≡ turn
 turn_named s p q = omega (arith, (turn_tallies s p q).0, (turn_tallies s p q).1, go (turn_of s p).outcome)
   where
     go : (o : Outcome) → pick (eqb p q) (weighed move_number o) 0 + pick (eqb p q) (weighed wait_number o) 0 ≡ times q (accepted_turn p o)
-    go (Made how) = move_or_wait (eqb p q) how ∙ omega (arith, times_turn q p [], times_none q)
-    go (Refused k) = by_test (λ k. k + k ≡ times q []) (eqb p q) (λ _. omega (arith, times_none q)) (λ _. omega (arith, times_none q))
+    go (Ok how) = move_or_wait (eqb p q) how ∙ omega (arith, times_turn q p [], times_none q)
+    go (Err k) = by_test (λ k. k + k ≡ times q []) (eqb p q) (λ _. omega (arith, times_none q)) (λ _. omega (arith, times_none q))
 
 -- a run adds those that it made
 run_named : (s : State) (schedule : List ℕ) (allowance : ℕ) (log : List ℕ) (q : ℕ)

@@ -1,11 +1,10 @@
 -- Calls as single turns: the state after the calls is the state after their counted turns, one by one.
-use Rattle.std.specs.Prelude.{◌≡◌, refl, Bool, true, false, List, [], ◌∷◌, ◌++◌, ◌⊎◌, ℕ, eqb, length, take}
+use Rattle.std.specs.Prelude.{◌≡◌, refl, Bool, true, false, List, [], ◌∷◌, ◌++◌, ◌⊎◌, ℕ, eqb, length, take, Ok, Err}
 use Rattle.std.proofs.Common.{sym, ap, ◌∙◌, subst, append_assoc, inl, inr, eq-eqb, ne_eqb, eqb-true}
 use Rattle.std.proofs.Math.Decide.{ℕ_discrete}
 use Rattle.bitset.specs.Choice.{pick}
 use Rattle.machine.specs.declared.State.{State}
-use Rattle.machine.specs.declared.Outcome.{Outcome}
-use Rattle.machine.specs.declared.Outcome.TheVariants.{Made, Refused}
+use Rattle.machine.specs.Answers.{Outcome}
 use Rattle.machine.specs.Turn.{turn_of, reason_number}
 use Rattle.machine.proofs.TurnLaws.{refused_still, turn_constants}
 use Rattle.barrier.specs.Work.{after_turns}
@@ -67,15 +66,15 @@ leads_turn : (s : State) (p : ℕ) → Leads s (counted_turn p (turn_of s p).out
 leads_turn s p = go (turn_of s p).outcome refl
   where
     go : (o : Outcome) → (turn_of s p).outcome ≡ o → Leads s (counted_turn p o) (turn_of s p).state
-    go (Made m) e = record { to = refl; counts = (inl (ap reason_number e), tt) }
-    go (Refused k) e = stopped (eqb k 11) refl
+    go (Ok m) e = record { to = refl; counts = (inl (ap reason_number e), tt) }
+    go (Err k) e = stopped (eqb k 11) refl
       where
         stopped : (b : Bool) → eqb k 11 ≡ b → Leads s (pick b (p ∷ []) []) (turn_of s p).state
         stopped true q = record { to = refl; counts = (inr (ap reason_number e ∙ eqb-true k 11 q), tt) }
         stopped false q = record { to = sym (refused_still s p k e); counts = tt }
 
 -- 02, P3: "In the progress rule a turn refused 13 isn't counted"; in a run it is not either (`stop_13` in runner)
-pub uncounted_13 : (p : ℕ) → counted_turn p (Refused 13) ≡ []
+pub uncounted_13 : (p : ℕ) → counted_turn p (Err 13) ≡ []
 uncounted_13 p = refl
 
 -- the turns of a trace
@@ -88,8 +87,8 @@ leads_trace s (p ∷ ts) = rw (trace_turn s p ts) (go (turn_of s p).outcome refl
 
     go : (o : Outcome) → (turn_of s p).outcome ≡ o → Leads (turn_of s p).state (counted_in rest) rest.state
         → Leads s (counted_in (turned s p o rest)) (turned s p o rest).state
-    go (Made m) e l = record { to = l.to; counts = (inl (ap reason_number e), l.counts) }
-    go (Refused k) e l = subst (λ (x : State). Leads s (counted_turn p (Refused k)) x) (refused_still s p k e) (subst (λ (o : Outcome). Leads s (counted_turn p o) (turn_of s p).state) e (leads_turn s p))
+    go (Ok m) e l = record { to = l.to; counts = (inl (ap reason_number e), l.counts) }
+    go (Err k) e l = subst (λ (x : State). Leads s (counted_turn p (Err k)) x) (refused_still s p k e) (subst (λ (o : Outcome). Leads s (counted_turn p o) (turn_of s p).state) e (leads_turn s p))
 
 -- a call
 pub leads_call : (s : State) (c : Call) → Leads s (counted s c) (after s c)

@@ -1,17 +1,16 @@
 -- The words of 02's P3 on tallies: "For each task, moves plus waits equals the accepted turns that named it since the fresh state." Accepted are
 -- the turns answered moved or waited, alone or in a run.
-use Rattle.std.specs.Prelude.{List, [], ◌∷◌, ◌++◌, ℕ, take}
+use Rattle.std.specs.Prelude.{List, [], ◌∷◌, ◌++◌, ℕ, take, Ok, Err}
 use Rattle.machine.specs.declared.State.{State}
-use Rattle.machine.specs.declared.Outcome.{Outcome}
-use Rattle.machine.specs.declared.Outcome.TheVariants.{Made, Refused}
+use Rattle.machine.specs.Answers.{Outcome}
 use Rattle.machine.specs.Turn.{turn_of}
 use Rattle.runner.specs.Run.{run_of}
 use Rattle.guarantee.specs.Calls.{Call, turn, run, after}
 
 -- a single turn
 abbrev pub accepted_turn : ℕ → Outcome → List ℕ
-accepted_turn p (Made how) = p ∷ []
-accepted_turn p (Refused k) = []
+accepted_turn p (Ok how) = p ∷ []
+accepted_turn p (Err k) = []
 
 -- of a run the first turns of its schedule, as many as it made: none where it is refused as a whole
 abbrev pub accepted : State → Call → List ℕ

@@ -2,7 +2,7 @@
 -- lines and counts, the arrivals of one are N minus the other's, and the aim equals the own sense on lines 13 to 16."
 use Rattle.std.specs.Prelude.{◌≡◌, List, [], ◌∷◌, ℕ, ◌+◌, ◌≤◌, ◌<◌}
 use Rattle.machine.specs.declared.State.{State}
-use Rattle.machine.specs.declared.Outcome.{Outcome}
+use Rattle.machine.specs.Answers.{Outcome}
 use Rattle.machine.specs.Setters.{task_at}
 use Rattle.machine.specs.Turn.{turn_of}
 use Rattle.machine.specs.Ready.{ready_of}

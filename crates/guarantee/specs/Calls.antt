@@ -1,9 +1,8 @@
 -- The words of demand 3 (01, "What demand 3 means"), over the definitions that the contracts of fresh, turn and run cite.
-use Rattle.std.specs.Prelude.{◌≡◌, List, [], ◌∷◌, ◌++◌, ℕ, ◌+◌, ◌≤◌, ◌<◌, eqb, length}
+use Rattle.std.specs.Prelude.{◌≡◌, List, [], ◌∷◌, ◌++◌, ℕ, ◌+◌, ◌≤◌, ◌<◌, eqb, length, Ok, Err}
 use Rattle.bitset.specs.Choice.{pick}
 use Rattle.machine.specs.declared.State.{State}
-use Rattle.machine.specs.declared.Outcome.{Outcome}
-use Rattle.machine.specs.declared.Outcome.TheVariants.{Made, Refused}
+use Rattle.machine.specs.Answers.{Outcome}
 use Rattle.machine.specs.Setters.{task_at}
 use Rattle.machine.specs.Fresh.{Inputs, fresh_reason, fresh_of}
 use Rattle.machine.specs.Turn.{turn_of}
@@ -28,8 +27,8 @@ after_all s (c ∷ cs) = after_all (after s c) cs
 
 -- "A list's counted turns are, in order, the task of each single turn answered moved, waited or 11,
 abbrev pub counted_turn : ℕ → Outcome → List ℕ
-counted_turn p (Made m) = p ∷ []
-counted_turn p (Refused k) = pick (eqb k 11) (p ∷ []) []
+counted_turn p (Ok m) = p ∷ []
+counted_turn p (Err k) = pick (eqb k 11) (p ∷ []) []
 
 -- and for each run not refused as a whole the tasks of its schedule from the first on: no more than its allowance, none after one that
 -- the defined turn refuses, and that one only if it is refused 11."

@@ -1,31 +1,22 @@
 // Reads what a reader gives. No contract can say which bytes those are, only that they stand in the buffer.
 #![tactic(auto)]
 
-ghost use Rattle.std.specs.Prelude.{length};
-ghost use Rattle.input.specs.Read.{Within};
+ghost use Rattle.std.specs.Prelude.{◌≤◌, length, IfOk};
 
-use std::io::Read;
+use std::io::{self, Read};
 
-// What reading gave: so many bytes, or a failure.
-#[derive(Drop)]
-pub enum Got {
-    Bytes(usize),
-    Failed,
-}
-
-// Reads a reader until it ends or the buffer is full.
-pub fn read_all<R: Read>(reader: &mut R, buf: &mut [u8]) -> Got
-    ensures { Within result (length buf.new) }
+// Reads a reader until it ends or the buffer is full, and answers how many bytes that gave.
+pub fn read_all<R: Read>(reader: &mut R, buf: &mut [u8]) -> io::Result<usize>
+    ensures { IfOk result (λ n. n ≤ length buf.new) }
 {
     let mut at = 0;
+    // A `while`, since how far a turn goes is the reader's to say.
     while at < buf.len() {
-        let Ok(n) = reader.read(&mut buf[at..]) else {
-            return Got::Failed;
-        };
+        let n = reader.read(&mut buf[at..])?;
         if n == 0 {
-            return Got::Bytes(at);
+            break;
         }
         at += n;
     }
-    Got::Bytes(at)
+    Ok(at)
 }

@@ -3,6 +3,7 @@ ghost use Rattle.std.specs.Prelude.{◌≡◌};
 ghost use Rattle.lines.specs.Centralized as defs;
 
 use crate::{Effect, Task, Write, common};
+use reason::Reason;
 
 // 12: the task's sense is the one that the round ends with.
 #[inline(always)]
@@ -19,29 +20,28 @@ fn line13(arrivals: u8, task: Task) -> Effect
     ensures { result ≡ defs.centralized13 arrivals task }
 {
     if arrivals == 0 {
-        return common::refuses(7, task);
+        return common::refuses(Reason::Range, task);
     }
     let mut next = task;
     next.line = common::after_arrival(arrivals == 1);
     common::counts(task, next, Write::Arrivals(arrivals - 1))
 }
 
-// 14: all n tasks are to arrive again.
+// 14: all n tasks are to arrive again. This, 15 and 16 differ from increment's in a word only; each barrier has a function a line,
+// as `centralized14` defines one.
 #[inline(always)]
-fn line14(n: u8, mut task: Task) -> Effect
+fn line14(n: u8, task: Task) -> Effect
     ensures { result ≡ defs.centralized14 n task }
 {
-    task.line = 15;
-    common::moves(task, Write::Arrivals(n))
+    common::set_back(n, task)
 }
 
 // 15: the shared sense turns to the task's own.
 #[inline(always)]
-fn line15(mut task: Task) -> Effect
+fn line15(task: Task) -> Effect
     ensures { result ≡ defs.centralized15 task }
 {
-    task.line = 11;
-    common::moves(task, Write::Sense(task.own))
+    common::turn_sense(task.own, task)
 }
 
 // 16: awaits that the shared sense is the task's own.
@@ -49,7 +49,7 @@ fn line15(mut task: Task) -> Effect
 fn line16(sense: u8, task: Task) -> Effect
     ensures { result ≡ defs.centralized16 sense task }
 {
-    common::awaits(sense == task.own, task, common::to(task, 11))
+    common::await_sense(sense, task.own, task)
 }
 
 // What the line does.

@@ -1,18 +1,20 @@
 // What the lines of the five barriers have in common. specs/Common.antt defines each.
-ghost use Rattle.std.specs.Prelude.{◌≡◌, ◌+◌};
+ghost use Rattle.std.specs.Prelude.{◌≡◌, ◌+◌, eqb};
 ghost use Rattle.bitset.specs.Choice.{pick};
 ghost use Rattle.bitset.specs.Set.{least_of, first_from};
+ghost use Rattle.reason.specs.Numbers.{number_of};
 ghost use Rattle.lines.specs.Setters.{with_line, with_count};
-ghost use Rattle.lines.specs.declared.Write.TheVariants.{Nothing};
+ghost use Rattle.lines.specs.declared.Write.TheVariants.{Nothing, Arrivals, Sense};
 ghost use Rattle.lines.specs.Common as defs;
 
 use crate::{Act, Effect, MAX_COUNT, Task, Write};
+use reason::Reason;
 
 // The other of 0 and 1.
 pub(crate) fn negated(b: u8) -> u8
     ensures { result ≡ defs.negated b }
 {
-    if b == 0 { 1 } else { 0 }
+    u8::from(b == 0)
 }
 
 // A move: the task as it is then, and the shared word that is written.
@@ -46,11 +48,11 @@ pub(crate) fn waits(task: Task) -> Effect
 }
 
 // A refusal, which changes nothing.
-pub(crate) fn refuses(reason: u8, task: Task) -> Effect
-    ensures { result ≡ defs.refuses reason task }
+pub(crate) fn refuses(reason: Reason, task: Task) -> Effect
+    ensures { result ≡ defs.refuses (number_of reason) task }
 {
     Effect {
-        act: Act::Refuses(reason),
+        act: Act::Refuses(reason.into()),
         task,
         write: Write::Nothing,
     }
@@ -72,7 +74,7 @@ pub(crate) fn counts(task: Task, mut next: Task, write: Write) -> Effect
         next.count = task.count + 1;
         moves(next, write)
     } else {
-        refuses(11, task)
+        refuses(Reason::CountLimit, task)
     }
 }
 
@@ -96,14 +98,37 @@ pub(crate) fn after_arrival(last: bool) -> u8
     if last { 14 } else { 16 }
 }
 
-// The least task of a list, as a byte; 64 for the empty list.
+// 14 of the kinds that count arrivals: so many tasks have arrived, or are still to, as before the round.
+pub(crate) fn set_back(arrivals: u8, mut task: Task) -> Effect
+    ensures { result ≡ defs.moves (with_line task 15) (Arrivals arrivals) }
+{
+    task.line = 15;
+    moves(task, Write::Arrivals(arrivals))
+}
+
+// 15 of the kinds that count arrivals: the shared sense is turned to this one.
+pub(crate) fn turn_sense(sense: u8, mut task: Task) -> Effect
+    ensures { result ≡ defs.moves (with_line task 11) (Sense sense) }
+{
+    task.line = 11;
+    moves(task, Write::Sense(sense))
+}
+
+// 16 of the kinds that count arrivals: awaits that the shared sense is the one that the round ends with.
+pub(crate) fn await_sense(shared: u8, ended: u8, task: Task) -> Effect
+    ensures { result ≡ defs.awaits (eqb shared ended) task (defs.moves (with_line task 11) Nothing) }
+{
+    awaits(shared == ended, task, to(task, 11))
+}
+
+// The least task of a list, as a byte; 64 for the empty list, as `least_of` defines it.
 pub(crate) fn least(list: u64) -> u8
     ensures { result ≡ least_of list }
 {
     bitset::least(list) as u8
 }
 
-// The first task of a list at or above the start, going round, as a byte; 64 for the empty list.
+// The first task of a list at or above the start, going round, as a byte; 64 for the empty list, as `first_from` defines it.
 #[tactic(auto, using(bitset::specs::SetLaws::first_le))]
 pub(crate) fn first(list: u64, start: u8) -> u8
     ensures { result ≡ first_from list start }

@@ -3,6 +3,7 @@ ghost use Rattle.std.specs.Prelude.{◌≡◌};
 ghost use Rattle.lines.specs.Increment as defs;
 
 use crate::{Effect, Task, Write, common};
+use reason::Reason;
 
 // 12: the aim is the sense that the round ends with.
 #[inline(always)]
@@ -19,7 +20,7 @@ fn line13(n: u8, arrivals: u8, task: Task) -> Effect
     ensures { result ≡ defs.increment13 n arrivals task }
 {
     if n <= arrivals {
-        return common::refuses(7, task);
+        return common::refuses(Reason::Range, task);
     }
     let arrived = arrivals + 1;
     let mut next = task;
@@ -27,22 +28,21 @@ fn line13(n: u8, arrivals: u8, task: Task) -> Effect
     common::counts(task, next, Write::Arrivals(arrived))
 }
 
-// 14: the arrivals are cleared.
+// 14: the arrivals are cleared. This, 15 and 16 differ from centralized's in a word only; each barrier has a function a line, as
+// `increment14` defines one.
 #[inline(always)]
-fn line14(mut task: Task) -> Effect
+fn line14(task: Task) -> Effect
     ensures { result ≡ defs.increment14 task }
 {
-    task.line = 15;
-    common::moves(task, Write::Arrivals(0))
+    common::set_back(0, task)
 }
 
 // 15: the sense turns to the aim.
 #[inline(always)]
-fn line15(mut task: Task) -> Effect
+fn line15(task: Task) -> Effect
     ensures { result ≡ defs.increment15 task }
 {
-    task.line = 11;
-    common::moves(task, Write::Sense(task.aim))
+    common::turn_sense(task.aim, task)
 }
 
 // 16: awaits that the sense is the aim.
@@ -50,7 +50,7 @@ fn line15(mut task: Task) -> Effect
 fn line16(sense: u8, task: Task) -> Effect
     ensures { result ≡ defs.increment16 sense task }
 {
-    common::awaits(sense == task.aim, task, common::to(task, 11))
+    common::await_sense(sense, task.aim, task)
 }
 
 // What the line does.

@@ -12,13 +12,16 @@ pub mod symmetric;
 pub mod tree;
 mod words;
 
+use reason::Refusal;
+
 // The limit of a count.
 pub const MAX_COUNT: u32 = 1_000_000;
 
 // A task of the barrier. Which fields a kind uses is said with their ranges, in setup's specs/Range.antt; the others are 0. The order of the
 // fields is chosen for the run: with a gap of 1 byte the compiler keeps a task in registers (5 would put it through memory), and every
 // line is inlined into the loop, by the hints before its pieces, which `bench/check` looks at. docs/changes/P6.md has what other orders cost.
-#[derive(Clone, Copy)]
+// A line, a flag or a sense is a number too: a state that a caller hands in may hold any, and setup's `task_ok` tells which are in range.
+#[derive(Clone, Copy, PartialEq, Eq, Default)]
 pub struct Task {
     pub aim: u8,
     pub toggle: u8,
@@ -35,7 +38,8 @@ pub struct Task {
     pub own: u8,
 }
 
-// What a line may read besides tasks and parents: the kind, the number of tasks, and the words that all share.
+// What a line may read besides tasks and parents: the kind, the number of tasks, and the words that all share. The kind is a number and no `Kind`: a
+// state that a caller hands in may have any, and machine's `State::valid` refuses one that there is not.
 #[derive(Clone, Copy)]
 pub struct Shared {
     pub kind: u8,
@@ -45,12 +49,13 @@ pub struct Shared {
     pub sense: u8,
 }
 
-// A line's own outcome: it is carried out, it awaits, or the number of the reason that refuses it.
+// A line's own outcome: it is carried out, it awaits, or it is refused. Three ways, and the `Result` of a turn is made of them: a line that awaits is
+// no failure, and one that is refused has no value.
 #[derive(Clone, Copy)]
 pub enum Act {
     Moves,
     Waits,
-    Refuses(u8),
+    Refuses(Refusal),
 }
 
 // What a line writes besides its own task: nothing, or one shared word. A toggle and a flag name their task.

@@ -8,18 +8,17 @@ use crate::{Effect, Task, Write, common};
 fn nz(p: usize) -> u8
     ensures { result ≡ defs.nz p }
 {
-    if p == 0 { 0 } else { 1 }
+    u8::from(p != 0)
 }
 
-// The next task round the ring. (The first test only keeps the sum from wrapping.)
+// The next task round the ring.
 fn next_task(n: u8, p: usize) -> usize
     ensures { result ≡ defs.next_task n p }
 {
-    let end = n as usize;
-    if end <= p {
-        return 0;
+    match p.checked_add(1) {
+        Some(next) if next < n as usize => next,
+        _ => 0,
     }
-    if p + 1 < end { p + 1 } else { 0 }
 }
 
 // 12: awaits that the toggle has come.

@@ -2,9 +2,22 @@
 // list, kk the looked-at task and cnt the count; rear, which only the note's proof needs, is not kept. specs/Tree.antt defines each line. The task is
 // the one with the number p; task 0 is the root.
 ghost use Rattle.std.specs.Prelude.{◌≡◌};
+ghost use Rattle.parents.specs.Parents.{children_of};
+ghost use Rattle.lines.specs.declared.Write.TheVariants.{Nothing};
+ghost use Rattle.lines.specs.Setters.{with_line, with_list};
+ghost use Rattle.lines.specs.Common.{moves};
 ghost use Rattle.lines.specs.Tree as defs;
 
 use crate::{Effect, Task, Write, common};
+
+// The own children are listed, and the task goes on to a line that goes through them.
+#[inline(always)]
+fn list_children(table: &[u8], p: usize, mut task: Task, line: u8) -> Effect
+    ensures { result ≡ moves (with_line (with_list task (children_of table.now p)) line) Nothing }
+{
+    task.list = parents::children(table, p);
+    common::to(task, line)
+}
 
 // 11  NCS ;
 // Own work.
@@ -18,11 +31,10 @@ fn line11(task: Task) -> Effect
 // 12  lis_p := children(p) ;
 // The own children are looked for here and at 17 alone.
 #[inline(always)]
-fn line12(table: &[u8], p: usize, mut task: Task) -> Effect
+fn line12(table: &[u8], p: usize, task: Task) -> Effect
     ensures { result ≡ defs.tree12 table.now p task }
 {
-    task.list = parents::children(table, p);
-    common::to(task, 13)
+    list_children(table, p, task, 13)
 }
 
 // 13  while exists kk_p in lis_p do
@@ -67,12 +79,12 @@ fn line16(p: usize, task: Task) -> Effect
 }
 
 // 17  lis_p := children(p) ;
+// As at 12, and yet a function of its own: each line has one, and `tree12` and `tree17` define both.
 #[inline(always)]
-fn line17(table: &[u8], p: usize, mut task: Task) -> Effect
+fn line17(table: &[u8], p: usize, task: Task) -> Effect
     ensures { result ≡ defs.tree17 table.now p task }
 {
-    task.list = parents::children(table, p);
-    common::to(task, 18)
+    list_children(table, p, task, 18)
 }
 
 // 18  while exists k in lis_p do aa[k] := false ; remove k from lis_p endwhile ; remove p from rear

@@ -1,5 +1,10 @@
--- Arrays: the first n entries of a state's 64, and how a loop fills an array from the front.
-use Rattle.std.proofs.Common.{◌≡◌, sym, ap, ◌∙◌, List, [], ◌∷◌, ◌++◌, ℕ, suc, ◌+◌, ◌-◌, ◌≤◌, ◌<◌, min, length, take, drop, set, replicate, arith}
+-- Arrays: the first n entries of a state's 64, how a loop fills an array from the front, and what `map` makes of one.
+use Rattle.std.proofs.Common.{◌≡◌, sym, ap, ◌∙◌, List, [], ◌∷◌, ◌++◌, ℕ, suc, ◌+◌, ◌-◌, ◌≤◌, ◌<◌, min, length, take, drop, set, replicate, get_or, ext_get_or, arith}
+use Rattle.std.specs.Fn.{Called}
+use Rattle.std.specs.Array.{IsMapOf}
+use denote.Param.Members.{Mut}
+use Rattle.bitset.specs.Table.{table}
+use Rattle.bitset.specs.TableLaws.{length_table, table_at}
 use Rattle.std.proofs.Math.Decide.{dec_lt}
 use Rattle.std.proofs.Math.ListN.{drop_of_length-le}
 use Rattle.std.proofs.Math.Seq.{append_snoc}
@@ -27,3 +32,13 @@ store_next ys n q a d long h =
   where
     more : n - q ≡ suc (n - (q + 1))
     more = omega arith
+
+-- the table that `map` of an array gives by a function
+pub table_mapped : {F A : Type 0} {g : Mut F (A × Unit {0}) ℕ} {f : F} (h : A → ℕ) (d : A)
+    → ((p q : F) (x : A) (y : ℕ) → Called g p (x, tt) y q → y ≡ h x)
+    → {xs : List A} {ys : List ℕ} {n : ℕ} → IsMapOf g f xs ys n → ys ≡ table n (λ q. h (get_or xs q d))
+table_mapped h d gives {xs} {ys} {n} made =
+    ext_get_or 0 ys (table n (λ q. h (get_or xs q d))) (made.long ∙ sym (length_table n (λ q. h (get_or xs q d))))
+    (λ i l. let here : i < n = omega (arith, made.long) in
+    let call = made.at i d 0 here in
+    gives call.0 call.1 (get_or xs i d) (get_or ys i 0) call.2 ∙ sym (table_at n (λ q. h (get_or xs q d)) i 0 here))

@@ -1,5 +1,5 @@
 -- Counts: a turn keeps a count or raises its task's by one, so that the least count never falls.
-use Rattle.std.specs.Prelude.{◌≡◌, refl, ℕ, ◌+◌, ◌≤◌, ◌<◌, length, ◌⊎◌}
+use Rattle.std.specs.Prelude.{◌≡◌, refl, ℕ, ◌+◌, ◌≤◌, ◌<◌, length, ◌⊎◌, Ok, Err}
 use Rattle.std.proofs.Common.{inl, inr, ⊎_elim, arith, sym, subst}
 use Rattle.std.proofs.Math.Decide.{ℕ_discrete}
 use Rattle.counts.specs.CountsLaws.{KeptOrRaised}
@@ -9,8 +9,7 @@ use Rattle.lines.specs.declared.Write.{Write}
 use Rattle.lines.specs.LineLaws.{Does, keeps, raises, stays, refused_7, refused_11, CountsArrivals}
 use Rattle.machine.specs.declared.State.{State}
 use Rattle.machine.specs.declared.Move.TheVariants.{Moved, Waited}
-use Rattle.machine.specs.declared.Outcome.{Outcome}
-use Rattle.machine.specs.declared.Outcome.TheVariants.{Made, Refused}
+use Rattle.machine.specs.Answers.{Outcome}
 use Rattle.machine.specs.Setters.{task_at, with_task, moves_at, waits_at}
 use Rattle.machine.specs.Range.{shared_of, Valid}
 use Rattle.machine.specs.Turn.{effect_of, written, answer_of, applied, turn_of}
@@ -47,9 +46,9 @@ module _ (s : State) (p q : ℕ) (here : p < length s.tasks) (u : Task) (w : Wri
       go (no ne) = inl (other_field count (λ x y. (refl, refl)) w s p q u ne)
 
   applied_count : (o : Outcome) → KeptOrRaised (task_at s q).count (task_at (applied o s p u w) q).count
-  applied_count (Made (Moved closed)) = moved_count
-  applied_count (Made Waited) = inl refl
-  applied_count (Refused k) = inl refl
+  applied_count (Ok (Moved closed)) = moved_count
+  applied_count (Ok Waited) = inl refl
+  applied_count (Err k) = inl refl
 
 -- a turn keeps every count or raises it by one
 pub turn_counts : (s : State) (p q : ℕ) → KeptOrRaised (task_at s q).count (task_at (turn_of s p).state q).count
@@ -93,7 +92,7 @@ pub data Why (s : State) (p : ℕ) : ℕ → Type 0 where
   eleven : max_count ≤ (task_at s p).count → Why s p 11
   thirteen : Full (effect_of s p).act (moves_at s p) (waits_at s p) → Why s p 13
 
-pub turn_why : (s : State) (p k : ℕ) → Valid s → p < s.n → (turn_of s p).outcome ≡ Refused k → Why s p k
+pub turn_why : (s : State) (p k : ℕ) → Valid s → p < s.n → (turn_of s p).outcome ≡ Err k → Why s p k
 turn_why s p k ok h e = go (refusal_acts s p k ok h e)
   where
     line : ((k ≡ 7) × CountsArrivals s.kind) ⊎ ((k ≡ 11) × (max_count ≤ (task_at s p).count)) → Why s p k

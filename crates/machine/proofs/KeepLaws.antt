@@ -1,5 +1,5 @@
 -- Every turn keeps a state in range (01: "every turn keeps a state in range").
-use Rattle.std.specs.Prelude.{◌≡◌, refl, Bool, true, ◌||◌, not, List, ◌≢◌, ℕ, ◌+◌, ◌-◌, ◌^◌, ◌≤◌, ◌<◌, eqb, leb, ltb, length, get_or}
+use Rattle.std.specs.Prelude.{◌≡◌, refl, Bool, true, ◌||◌, not, List, ◌≢◌, ℕ, ◌+◌, ◌-◌, ◌^◌, ◌≤◌, ◌<◌, eqb, leb, ltb, length, get_or, Ok, Err}
 use Rattle.std.proofs.Common.{sym, ◌∙◌, subst, lt_of_not-le, mod-lt, arith, length-take, length-set, get_or-set_same, get_or-set_other, ne_eqb, lt-ltb, le-leb, ltb-true, leb-false, eqb-true}
 use Rattle.std.proofs.Math.Decide.{ℕ_discrete, dec_lt}
 use Rattle.std.proofs.Math.Seq.{set_out}
@@ -17,8 +17,7 @@ use Rattle.setup.specs.RangeLaws.{used, below, modulus_3, line_14, room_past}
 use Rattle.machine.specs.declared.State.{State}
 use Rattle.machine.specs.declared.Move.{Move}
 use Rattle.machine.specs.declared.Move.TheVariants.{Moved, Waited}
-use Rattle.machine.specs.declared.Outcome.{Outcome}
-use Rattle.machine.specs.declared.Outcome.TheVariants.{Made, Refused}
+use Rattle.machine.specs.Answers.{Outcome}
 use Rattle.lines.specs.declared.Effect.{Effect}
 use Rattle.lines.specs.declared.Act.{Act}
 use Rattle.lines.specs.declared.Act.TheVariants.{Moves, Waits, Refuses}
@@ -342,7 +341,7 @@ keep_tallies s x y r mx wy =
     }
 
 -- what a turn that is made leaves
-keep_made : (s : State) (p : ℕ) (how : Move) → Makes s p how → InRange (applied (Made how) s p (effect_of s p).task (effect_of s p).write)
+keep_made : (s : State) (p : ℕ) (how : Move) → Makes s p how → InRange (applied (Ok how) s p (effect_of s p).task (effect_of s p).write)
 keep_made s p (Moved c) m =
     let r = range s m.valid in
     let g : Good s p Moves (effect_of s p).task (effect_of s p).write = rw m.act at (good_effect s p r m.known) in
@@ -359,8 +358,8 @@ pub turn_valid : (s : State) (p : ℕ) → Valid s → Valid (turn_of s p).state
 turn_valid s p ok = rw (turn_applied s p) (go (turn_of s p).outcome refl)
   where
     go : (o : Outcome) → (turn_of s p).outcome ≡ o → Valid (applied o s p (effect_of s p).task (effect_of s p).write)
-    go (Made how) e = valid (applied (Made how) s p (effect_of s p).task (effect_of s p).write) (keep_made s p how (turn_makes s p how e))
-    go (Refused k) e = ok
+    go (Ok how) e = valid (applied (Ok how) s p (effect_of s p).task (effect_of s p).write) (keep_made s p how (turn_makes s p how e))
+    go (Err k) e = ok
 
 -- ---- the places that a turn reads and writes are tasks
 

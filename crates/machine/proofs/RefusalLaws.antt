@@ -1,5 +1,5 @@
 -- When a turn is refused, and what it has met then.
-use Rattle.std.specs.Prelude.{◌≡◌, refl, ◌⊎◌, ◌≢◌, ℕ, ◌<◌}
+use Rattle.std.specs.Prelude.{◌≡◌, refl, ◌⊎◌, ◌≢◌, ℕ, ◌<◌, Ok, Err}
 use Rattle.std.proofs.Common.{sym, ap, subst, inl, inr, arith}
 use Rattle.std.proofs.Math.Decide.{ℕ_discrete, dec_lt}
 use Rattle.lines.specs.declared.Effect.{Effect}
@@ -10,8 +10,7 @@ use Rattle.lines.specs.Rule.{counting_line}
 use Rattle.lines.specs.LineLaws.{CountsArrivals}
 use Rattle.lines.specs.CountingLaws.{AllArrived, arrived_counts, DoesAt, keeps, raises, stays, refused_7, refused_11}
 use Rattle.machine.specs.declared.State.{State}
-use Rattle.machine.specs.declared.Outcome.{Outcome}
-use Rattle.machine.specs.declared.Outcome.TheVariants.{Made, Refused}
+use Rattle.machine.specs.Answers.{Outcome}
 use Rattle.machine.specs.Setters.{task_at, moves_at, waits_at}
 use Rattle.machine.specs.Tally.{max_tally}
 use Rattle.machine.specs.Range.{shared_of, check_state, Valid}
@@ -22,8 +21,8 @@ use Rattle.machine.proofs.TallyLaws.{moves_limit, waits_limit}
 
 -- an answer that is no refusal
 abbrev pub Goes : Outcome → Type 0
-Goes (Made how) = Unit {0}
-Goes (Refused k) = ⊥
+Goes (Ok how) = Unit {0}
+Goes (Err k) = ⊥
 
 -- what a turn of p that is refused has met, by its reason, in a state in range
 pub data Met (s : State) (p : ℕ) : ℕ → Type 0 where
@@ -53,14 +52,14 @@ module _ (s : State) (p : ℕ) (ok : Valid s) (h : p < s.n) where
   full_why (Refuses k) a full = absurd full
 
   -- a turn of a known task is refused only for one of these
-  pub turn_met : (k : ℕ) → (turn_of s p).outcome ≡ Refused k → Met s p k
+  pub turn_met : (k : ℕ) → (turn_of s p).outcome ≡ Err k → Met s p k
   turn_met k e = go (refusal_acts s p k ok h e)
     where
       go : ((effect_of s p).act ≡ Refuses k) ⊎ ((k ≡ 13) × Full (effect_of s p).act (moves_at s p) (waits_at s p)) → Met s p k
       go (inl a) = line_why k a
       go (inr w) = subst (Met s p) (sym w.0) (full_why (effect_of s p).act refl w.1)
 
-pub turn_refusals : (s : State) (p k : ℕ) → Valid s → p < s.n → (turn_of s p).outcome ≡ Refused k → (k ≡ 7) ⊎ ((k ≡ 11) ⊎ (k ≡ 13))
+pub turn_refusals : (s : State) (p k : ℕ) → Valid s → p < s.n → (turn_of s p).outcome ≡ Err k → (k ≡ 7) ⊎ ((k ≡ 11) ⊎ (k ≡ 13))
 turn_refusals s p k ok h e = go (turn_met s p ok h k e)
   where
     go : {j : ℕ} → Met s p j → (j ≡ 7) ⊎ ((j ≡ 11) ⊎ (j ≡ 13))
@@ -70,7 +69,7 @@ turn_refusals s p k ok h e = go (turn_met s p ok h k e)
     go (thirteen_waits a w) = inr (inr refl)
 
 -- no turn, of any state, is refused 0
-pub never_0 : (s : State) (p : ℕ) → (turn_of s p).outcome ≢ Refused 0
+pub never_0 : (s : State) (p : ℕ) → (turn_of s p).outcome ≢ Err 0
 never_0 s p = split (ℕ_discrete (check_state s) 0) (dec_lt p s.n)
   where
     no_reason : (◌≡◌ {A = ℕ} 0 7) ⊎ ((◌≡◌ {A = ℕ} 0 11) ⊎ (◌≡◌ {A = ℕ} 0 13)) → ⊥
@@ -78,7 +77,7 @@ never_0 s p = split (ℕ_discrete (check_state s) 0) (dec_lt p s.n)
     no_reason (inr (inl e)) = omega arith
     no_reason (inr (inr e)) = omega arith
 
-    split : Dec (check_state s ≡ 0) → Dec (p < s.n) → (turn_of s p).outcome ≢ Refused 0
+    split : Dec (check_state s ≡ 0) → Dec (p < s.n) → (turn_of s p).outcome ≢ Err 0
     split (yes ok) (yes h) = λ e. no_reason (turn_refusals s p 0 ok h e)
     split (yes ok) (no h) = rw (turn_unknown s p ok (omega arith)) (λ e. let z : ◌≡◌ {A = ℕ} 9 0 = cc in omega arith)
     split (no bad) _ = rw (turn_checked s p bad) (λ e. bad cc)
@@ -88,15 +87,15 @@ pub turn_goes : (s : State) (p : ℕ) → Valid s → p < s.n → (task_at s p).
     → (CountsArrivals s.kind → reason_number (turn_of s p).outcome ≢ 7) → Goes (turn_of s p).outcome
 turn_goes s p ok h low room_m room_w none = go (turn_of s p).outcome refl
   where
-    because : {k : ℕ} → Met s p k → (turn_of s p).outcome ≡ Refused k → ⊥
+    because : {k : ℕ} → Met s p k → (turn_of s p).outcome ≡ Err k → ⊥
     because (seven l all) e = none (arrived_counts (shared_of s) all) (ap reason_number e)
     because (eleven l c) e = omega arith
     because (thirteen_moves a m) e = omega arith
     because (thirteen_waits a w) e = omega arith
 
     go : (o : Outcome) → (turn_of s p).outcome ≡ o → Goes o
-    go (Made how) e = tt
-    go (Refused k) e = absurd (because (turn_met s p ok h k e) e)
+    go (Ok how) e = tt
+    go (Err k) e = absurd (because (turn_met s p ok h k e) e)
 
 -- 7 at a turn of a known task, in a state in range, is the line's own
 pub seven_acts : (s : State) (p : ℕ) → Valid s → p < s.n → reason_number (turn_of s p).outcome ≡ 7 → (effect_of s p).act ≡ Refuses 7
@@ -107,8 +106,8 @@ seven_acts s p ok h = go (turn_of s p).outcome refl
     line k is (inr w) = absurd (omega (arith, w.0))
 
     go : (o : Outcome) → (turn_of s p).outcome ≡ o → reason_number o ≡ 7 → (effect_of s p).act ≡ Refuses 7
-    go (Made how) e z = absurd (omega arith)
-    go (Refused k) e z = line k z (refusal_acts s p k ok h e)
+    go (Ok how) e z = absurd (omega arith)
+    go (Err k) e z = line k z (refusal_acts s p k ok h e)
 
 -- and so all have arrived
 pub seven_arrived : (s : State) (p : ℕ) → Valid s → reason_number (turn_of s p).outcome ≡ 7 → AllArrived (shared_of s)
@@ -129,7 +128,7 @@ pub seven_arrives : (s : State) (p : ℕ) → Valid s → reason_number (turn_of
 seven_arrives s p ok e = arrived_counts (shared_of s) (seven_arrived s p ok e)
 
 -- 13: a move meets it where its task's tally of moves is at the limit, a wait where its tally of waits is, and neither for the other
-pub turn_13 : (s : State) (p : ℕ) → Valid s → p < s.n → (turn_of s p).outcome ≡ Refused 13
+pub turn_13 : (s : State) (p : ℕ) → Valid s → p < s.n → (turn_of s p).outcome ≡ Err 13
     → (((effect_of s p).act ≡ Moves) × (moves_at s p ≡ max_tally)) ⊎ (((effect_of s p).act ≡ Waits) × (waits_at s p ≡ max_tally))
 turn_13 s p ok h e = go 13 refl (turn_met s p ok h 13 e)
   where

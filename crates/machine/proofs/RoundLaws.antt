@@ -1,5 +1,5 @@
 -- Rounds (02, P2): what a turn makes of the counts, and so of the least count.
-use Rattle.std.specs.Prelude.{◌≡◌, refl, List, ◌≢◌, ℕ, ◌+◌, ◌≤◌, ◌<◌, ltb, length, get_or, take}
+use Rattle.std.specs.Prelude.{◌≡◌, refl, List, ◌≢◌, ℕ, ◌+◌, ◌≤◌, ◌<◌, ltb, length, get_or, take, Ok}
 use Rattle.std.proofs.Common.{sym, ap, ◌∙◌, ltb-true, ltb-false, arith}
 use Rattle.bitset.specs.ChoiceLaws.{by_test}
 use Rattle.bitset.specs.TableLaws.{length_table}
@@ -9,7 +9,6 @@ use Rattle.lines.specs.declared.Task.{Task}
 use Rattle.machine.specs.declared.State.{State}
 use Rattle.machine.specs.declared.Move.{Move}
 use Rattle.machine.specs.declared.Move.TheVariants.{Moved, Waited}
-use Rattle.machine.specs.declared.Outcome.TheVariants.{Made}
 use Rattle.machine.specs.declared.Turned.{Turned}
 use Rattle.machine.specs.Tally.{wait_tallied}
 use Rattle.machine.specs.Range.{Valid}
@@ -59,7 +58,7 @@ module _ (s : State) (p : ℕ) (ok : Valid s) (h : p < s.n) where
       (sym (rise_closes (count_of s) (count_of after) s.n p h other_count rises_count))
 
   -- after a turn that is made the own task has the effect's count, and every other the one it had
-  module _ (how : Move) (made : (turn_of s p).outcome ≡ Made how) where
+  module _ (how : Move) (made : (turn_of s p).outcome ≡ Ok how) where
     -- but for the tallies, which have no counts
     after_turn : (q : ℕ) → count_of (turn_of s p).state q ≡ count_of after q
     after_turn q =
@@ -75,7 +74,7 @@ module _ (s : State) (p : ℕ) (ok : Valid s) (h : p < s.n) where
 -- ---- what the answer carries
 
 -- 02, P2: "1 if the least count rose in that turn, else 0"
-pub turn_closed_lem : (s : State) (p c : ℕ) → (turn_of s p).outcome ≡ Made (Moved c) → c ≡ closed_by s (turn_of s p).state
+pub turn_closed_lem : (s : State) (p c : ℕ) → (turn_of s p).outcome ≡ Ok (Moved c) → c ≡ closed_by s (turn_of s p).state
 unfolding least
 turn_closed_lem s p c e =
     let m = turn_makes s p (Moved c) e in
@@ -90,7 +89,7 @@ turn_least_one s p h =
     omega (arith, a.2, turn_rises s p a.0, least_le (turn_of s p).state a.0 (rw (turn_constants s p).n a.1))
 
 -- by what a turn that is made carries, the least count rises
-pub turn_round : (s : State) (p : ℕ) (how : Move) → (turn_of s p).outcome ≡ Made how → least (turn_of s p).state ≡ least s + closed_number how
+pub turn_round : (s : State) (p : ℕ) (how : Move) → (turn_of s p).outcome ≡ Ok how → least (turn_of s p).state ≡ least s + closed_number how
 turn_round s p (Moved c) e =
     rw (turn_closed_lem s p c e)
     (by_test (λ x. least (turn_of s p).state ≡ least s + x) (ltb (least s) (least (turn_of s p).state))

@@ -1,5 +1,5 @@
 -- Laws of the tallies (02, P3): what a turn makes of them, and their limit.
-use Rattle.std.specs.Prelude.{◌≡◌, refl, List, ℕ, ◌+◌, ◌≤◌, ◌<◌, eqb, length, get_or}
+use Rattle.std.specs.Prelude.{◌≡◌, refl, List, ℕ, ◌+◌, ◌≤◌, ◌<◌, eqb, length, get_or, Ok, Err}
 use Rattle.std.proofs.Common.{sym, ◌∙◌, arith, get_or-set_same, get_or-set_other, eq-eqb, ne_eqb, lt-ltb, leb-true}
 use Rattle.std.proofs.Math.Decide.{ℕ_discrete}
 use Rattle.bitset.specs.Choice.{pick}
@@ -7,8 +7,7 @@ use Rattle.bitset.specs.ChoiceLaws.{by_test}
 use Rattle.machine.specs.declared.State.{State}
 use Rattle.machine.specs.declared.Move.{Move}
 use Rattle.machine.specs.declared.Move.TheVariants.{Moved, Waited}
-use Rattle.machine.specs.declared.Outcome.{Outcome}
-use Rattle.machine.specs.declared.Outcome.TheVariants.{Made, Refused}
+use Rattle.machine.specs.Answers.{Outcome}
 use Rattle.machine.specs.Setters.{moves_at, waits_at}
 use Rattle.machine.specs.Tally.{max_tally, tallied}
 use Rattle.machine.specs.Range.{Valid}
@@ -20,8 +19,8 @@ use Rattle.machine.proofs.TurnLaws.{move_le, wait_le, Makes, turn_makes, refused
 
 -- what an answer is counted as: a turn that is made by its number, a refused one as 0
 abbrev pub weighed : (Move → ℕ) → Outcome → ℕ
-weighed weight (Made how) = weight how
-weighed weight (Refused k) = 0
+weighed weight (Ok how) = weight how
+weighed weight (Err k) = 0
 
 -- the tallies of every task, where that of p is raised
 tallied_at : (l : List ℕ) (p q more : ℕ) → p < length l → get_or (tallied l p more) q 0 ≡ get_or l q 0 + pick (eqb p q) more 0
@@ -49,14 +48,14 @@ module _ (s : State) (p : ℕ) where
       go : (o : Outcome) → (turn_of s p).outcome ≡ o
           → (moves_at (turn_of s p).state q ≡ moves_at s q + pick (eqb p q) (weighed move_number o) 0)
           × (waits_at (turn_of s p).state q ≡ waits_at s q + pick (eqb p q) (weighed wait_number o) 0)
-      go (Made (Moved c)) e =
+      go (Ok (Moved c)) e =
           let kept = written_tallies (effect_of s p).write s p (effect_of s p).task in
           rw (moved_tallied s p c e, kept.0, kept.1)
           (tallied_at s.moves p q 1 (there (turn_makes s p (Moved c) e)).0, none p q (waits_at s q))
-      go (Made Waited) e =
+      go (Ok Waited) e =
           rw (waited_tallied s p e)
           (none p q (moves_at s q), tallied_at s.waits p q 1 (there (turn_makes s p Waited e)).1)
-      go (Refused k) e = rw (refused_still s p k e) (none p q (moves_at s q), none p q (waits_at s q))
+      go (Err k) e = rw (refused_still s p k e) (none p q (moves_at s q), none p q (waits_at s q))
 
 -- so no tally rises by more than one
 pub tallies_rise : (s : State) (p q : ℕ) → (moves_at (turn_of s p).state q ≤ moves_at s q + 1) × (waits_at (turn_of s p).state q ≤ waits_at s q + 1)
@@ -66,8 +65,8 @@ tallies_rise s p q = (omega (arith, (turn_tallies s p q).0, at_most move_number 
     at_most weight light = by_test (λ k. k ≤ 1) (eqb p q) (λ _. go (turn_of s p).outcome) (λ _. omega arith)
       where
         go : (o : Outcome) → weighed weight o ≤ 1
-        go (Made how) = light how
-        go (Refused k) = omega arith
+        go (Ok how) = light how
+        go (Err k) = omega arith
 
 -- ---- their limit
 

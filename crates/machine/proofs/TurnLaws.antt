@@ -1,5 +1,5 @@
 -- Laws of a turn over its definition: by cases, what it leaves as it was, what it never changes, and what it stores.
-use Rattle.std.specs.Prelude.{◌≡◌, Bool, true, false, List, ◌≢◌, ◌⊎◌, ℕ, ◌+◌, ◌-◌, ◌≤◌, ◌<◌, eqb, ltb, length, get_or, set}
+use Rattle.std.specs.Prelude.{◌≡◌, Bool, true, false, List, ◌≢◌, ◌⊎◌, ℕ, ◌+◌, ◌-◌, ◌≤◌, ◌<◌, eqb, ltb, length, get_or, set, Ok, Err}
 use Rattle.std.proofs.Math.Path.{refl}
 use Rattle.std.proofs.Common.{sym, ap, ◌∙◌, true≢false, inl, inr, arith, length-set, get_or-set_same, get_or-set_other, eq-eqb, ne_eqb, lt-ltb, le-ltb, ltb-true, ltb-false, eqb-true}
 use Rattle.std.proofs.Math.Decide.{ℕ_discrete, dec_lt}
@@ -27,8 +27,7 @@ use Rattle.lines.specs.LineLaws.{Does, keeps, raises, stays, refused_7, refused_
 use Rattle.machine.specs.declared.State.{State}
 use Rattle.machine.specs.declared.Move.{Move}
 use Rattle.machine.specs.declared.Move.TheVariants.{Moved, Waited}
-use Rattle.machine.specs.declared.Outcome.{Outcome}
-use Rattle.machine.specs.declared.Outcome.TheVariants.{Made, Refused}
+use Rattle.machine.specs.Answers.{Outcome}
 use Rattle.machine.specs.declared.Turned.{Turned}
 use Rattle.machine.specs.Setters.{task_at, moves_at, waits_at, with_task, with_tasks, with_arrivals, with_sense, with_moves, with_waits}
 use Rattle.machine.specs.Tally.{max_tally, tallied, move_tallied, wait_tallied}
@@ -146,19 +145,19 @@ raised_by (Moved c) m w = m
 raised_by Waited m w = w
 
 -- a turn that is made is its line's own outcome, and has room in the tally that it raises
-made_by : (a : Act) (closed m w : ℕ) (how : Move) → outcome_of a closed m w ≡ Made how → (a ≡ act_of how) × (raised_by how m w < max_tally)
+made_by : (a : Act) (closed m w : ℕ) (how : Move) → outcome_of a closed m w ≡ Ok how → (a ≡ act_of how) × (raised_by how m w < max_tally)
 made_by Moves closed m w how e =
-    by_test (λ o. o ≡ Made how → (Moves ≡ act_of how) × (raised_by how m w < max_tally)) (ltb m max_tally)
+    by_test (λ o. o ≡ Ok how → (Moves ≡ act_of how) × (raised_by how m w < max_tally)) (ltb m max_tally)
     (λ room. moved how (ltb-true m max_tally room)) (λ _ q. let z : ◌≡◌ {A = ℕ} 0 1 = cc in absurd (omega arith)) e
   where
-    moved : (h : Move) → m < max_tally → Made (Moved closed) ≡ Made h → (Moves ≡ act_of h) × (raised_by h m w < max_tally)
+    moved : (h : Move) → m < max_tally → ◌≡◌ {A = Outcome} (Ok (Moved closed)) (Ok h) → (Moves ≡ act_of h) × (raised_by h m w < max_tally)
     moved (Moved c) room q = (refl, room)
     moved Waited room q = let z : ◌≡◌ {A = ℕ} 0 1 = cc in absurd (omega arith)
 made_by Waits closed m w how e =
-    by_test (λ o. o ≡ Made how → (Waits ≡ act_of how) × (raised_by how m w < max_tally)) (ltb w max_tally)
+    by_test (λ o. o ≡ Ok how → (Waits ≡ act_of how) × (raised_by how m w < max_tally)) (ltb w max_tally)
     (λ room. waited how (ltb-true w max_tally room)) (λ _ q. let z : ◌≡◌ {A = ℕ} 0 1 = cc in absurd (omega arith)) e
   where
-    waited : (h : Move) → w < max_tally → Made Waited ≡ Made h → (Waits ≡ act_of h) × (raised_by h m w < max_tally)
+    waited : (h : Move) → w < max_tally → ◌≡◌ {A = Outcome} (Ok Waited) (Ok h) → (Waits ≡ act_of h) × (raised_by h m w < max_tally)
     waited (Moved c) room q = let z : ◌≡◌ {A = ℕ} 0 1 = cc in absurd (omega arith)
     waited Waited room q = (refl, room)
 made_by (Refuses k) closed m w how e = let z : ◌≡◌ {A = ℕ} 0 1 = cc in absurd (omega arith)
@@ -170,18 +169,18 @@ Full Waits m w = max_tally ≤ w
 Full (Refuses k) m w = ⊥
 
 -- a turn that is refused is refused by its line, or for reason 13, a tally at its limit
-refused_by : (a : Act) (closed m w k : ℕ) → outcome_of a closed m w ≡ Refused k → (a ≡ Refuses k) ⊎ ((k ≡ 13) × Full a m w)
+refused_by : (a : Act) (closed m w k : ℕ) → outcome_of a closed m w ≡ Err k → (a ≡ Refuses k) ⊎ ((k ≡ 13) × Full a m w)
 refused_by Moves closed m w k e =
-    by_test (λ o. o ≡ Refused k → (Moves ≡ Refuses k) ⊎ ((k ≡ 13) × Full Moves m w)) (ltb m max_tally)
+    by_test (λ o. o ≡ Err k → (Moves ≡ Refuses k) ⊎ ((k ≡ 13) × Full Moves m w)) (ltb m max_tally)
     (λ _ q. let z : ◌≡◌ {A = ℕ} 0 1 = cc in absurd (omega arith)) (λ full q. let same : 13 ≡ k = cc in inr (sym same, ltb-false m max_tally full)) e
 refused_by Waits closed m w k e =
-    by_test (λ o. o ≡ Refused k → (Waits ≡ Refuses k) ⊎ ((k ≡ 13) × Full Waits m w)) (ltb w max_tally)
+    by_test (λ o. o ≡ Err k → (Waits ≡ Refuses k) ⊎ ((k ≡ 13) × Full Waits m w)) (ltb w max_tally)
     (λ _ q. let z : ◌≡◌ {A = ℕ} 0 1 = cc in absurd (omega arith)) (λ full q. let same : 13 ≡ k = cc in inr (sym same, ltb-false w max_tally full)) e
 refused_by (Refuses j) closed m w k e = let same : j ≡ k = cc in inl (ap Refuses same)
 
 -- a turn is answered moved where its line moves and its tally of moves is below the limit
 pub turn_moves : (s : State) (p : ℕ) → Valid s → p < s.n → (effect_of s p).act ≡ Moves → moves_at s p < max_tally
-    → (turn_of s p).outcome ≡ Made (Moved (closed_by s (moved_to s p (effect_of s p).task (effect_of s p).write)))
+    → (turn_of s p).outcome ≡ Ok (Moved (closed_by s (moved_to s p (effect_of s p).task (effect_of s p).write)))
 turn_moves s p ok h e room = rw (turn_answer s p ok h, e, lt-ltb (moves_at s p) max_tally room)
 
 -- what is known of a turn that is made
@@ -191,34 +190,34 @@ pub record Makes (s : State) (p : ℕ) (how : Move) : Type 0 where
   pub act : (effect_of s p).act ≡ act_of how
   pub room : raised_by how (moves_at s p) (waits_at s p) < max_tally
 
-pub turn_makes : (s : State) (p : ℕ) (how : Move) → (turn_of s p).outcome ≡ Made how → Makes s p how
+pub turn_makes : (s : State) (p : ℕ) (how : Move) → (turn_of s p).outcome ≡ Ok how → Makes s p how
 turn_makes s p how =
-    by_turn (λ r. r.outcome ≡ Made how → Makes s p how) s p (λ k e. let z : ◌≡◌ {A = ℕ} 0 1 = cc in absurd (omega arith))
+    by_turn (λ r. r.outcome ≡ Ok how → Makes s p how) s p (λ k e. let z : ◌≡◌ {A = ℕ} 0 1 = cc in absurd (omega arith))
     (λ ok h e. let by = made_by (effect_of s p).act _ (moves_at s p) (waits_at s p) how (sym (step_outcome s p) ∙ e) in
     record { valid = ok; known = h; act = by.0; room = by.1 })
 
 -- a refusal of a known task, in a state in range
-pub refusal_acts : (s : State) (p k : ℕ) → Valid s → p < s.n → (turn_of s p).outcome ≡ Refused k
+pub refusal_acts : (s : State) (p k : ℕ) → Valid s → p < s.n → (turn_of s p).outcome ≡ Err k
     → ((effect_of s p).act ≡ Refuses k) ⊎ ((k ≡ 13) × Full (effect_of s p).act (moves_at s p) (waits_at s p))
 refusal_acts s p k ok h e =
     refused_by (effect_of s p).act _ (moves_at s p) (waits_at s p) k (sym (turn_answer s p ok h) ∙ e)
 
 -- a turn whose line moves is answered moved, unless it is refused 13
 pub able_moves : (s : State) (p : ℕ) → Valid s → p < s.n → (effect_of s p).act ≡ Moves → reason_number (turn_of s p).outcome ≢ 13
-    → (c : ℕ) × ((turn_of s p).outcome ≡ Made (Moved c))
+    → (c : ℕ) × ((turn_of s p).outcome ≡ Ok (Moved c))
 able_moves s p ok h act not_13 = go (turn_of s p).outcome refl
   where
     refused : (k : ℕ) → reason_number (turn_of s p).outcome ≡ k → ((effect_of s p).act ≡ Refuses k) ⊎ ((k ≡ 13) × Full (effect_of s p).act (moves_at s p) (waits_at s p)) → ⊥
     refused k e (inl a) = let z : ◌≡◌ {A = ℕ} 0 1 = cc in omega arith
     refused k e (inr w) = not_13 (e ∙ w.0)
 
-    go : (o : Outcome) → (turn_of s p).outcome ≡ o → (c : ℕ) × (o ≡ Made (Moved c))
-    go (Made (Moved c)) e = (c, refl)
-    go (Made Waited) e =
+    go : (o : Outcome) → (turn_of s p).outcome ≡ o → (c : ℕ) × (o ≡ Ok (Moved c))
+    go (Ok (Moved c)) e = (c, refl)
+    go (Ok Waited) e =
         let a = (turn_makes s p Waited e).act in
         let z : ◌≡◌ {A = ℕ} 0 1 = cc in
         absurd (omega arith)
-    go (Refused k) e = absurd (refused k (ap reason_number e) (refusal_acts s p k ok h e))
+    go (Err k) e = absurd (refused k (ap reason_number e) (refusal_acts s p k ok h e))
 
 -- ---- what a turn leaves
 
@@ -232,16 +231,16 @@ module _ (s : State) (p : ℕ) where
   by_answer o e = turn_applied s p ∙ ap (λ (x : Outcome). applied x s p (effect_of s p).task (effect_of s p).write) e
 
   -- a refused call "returns .. the state it got"
-  pub refused_still : (k : ℕ) → (turn_of s p).outcome ≡ Refused k → (turn_of s p).state ≡ s
-  refused_still k e = by_answer (Refused k) e
+  pub refused_still : (k : ℕ) → (turn_of s p).outcome ≡ Err k → (turn_of s p).state ≡ s
+  refused_still k e = by_answer (Err k) e
 
   -- 02, P3: "a turn that waits now raises its task's wait tally by one and nothing else"
-  pub waited_tallied : (turn_of s p).outcome ≡ Made Waited → (turn_of s p).state ≡ wait_tallied s p
-  waited_tallied e = by_answer (Made Waited) e
+  pub waited_tallied : (turn_of s p).outcome ≡ Ok Waited → (turn_of s p).state ≡ wait_tallied s p
+  waited_tallied e = by_answer (Ok Waited) e
 
   -- a move stores its own task, and then writes its word; 02, P3: it "also raises its task's move tally by one"
-  pub moved_tallied : (c : ℕ) → (turn_of s p).outcome ≡ Made (Moved c) → (turn_of s p).state ≡ move_tallied (moved_to s p (effect_of s p).task (effect_of s p).write) p
-  moved_tallied c e = by_answer (Made (Moved c)) e
+  pub moved_tallied : (c : ℕ) → (turn_of s p).outcome ≡ Ok (Moved c) → (turn_of s p).state ≡ move_tallied (moved_to s p (effect_of s p).task (effect_of s p).write) p
+  moved_tallied c e = by_answer (Ok (Moved c)) e
 
 -- ---- what a turn stores, straight on
 
@@ -334,7 +333,7 @@ written_tallies (Flag q x) s p t = (refl, refl)
 -- what the outcome of a turn that is made leaves: all that its effect has, stored. A wait's effect has the task that stood there, and writes
 -- nothing.
 applied_stored : (s : State) (p : ℕ) (e : Effect) → Does (shared_of s) (task_at s p) e → (how : Move) → e.act ≡ act_of how
-    → applied (Made how) s p e.task e.write ≡ stored s p e how
+    → applied (Ok how) s p e.task e.write ≡ stored s p e how
 applied_stored s p e d (Moved c) act =
     ap (λ (l : List ℕ). with_moves moved (tallied l p 1)) (written_tallies e.write s p e.task).0
     ∙ ap (with_waits (with_moves moved (tallied s.moves p 1))) ((written_tallies e.write s p e.task).1 ∙ sym (tallied_0 s.waits p))
@@ -352,25 +351,25 @@ applied_stored s p _ (refused_7 k) Waited act = let z : ◌≡◌ {A = ℕ} 0 1 
 applied_stored s p _ (refused_11 l) Waited act = let z : ◌≡◌ {A = ℕ} 0 1 = cc in absurd (omega arith)
 
 -- a turn that is made stores all that its effect has
-pub step_made : (s : State) (p : ℕ) (how : Move) → answer_of s p (effect_of s p) ≡ Made how
-    → step_of s p ≡ record { state = stored s p (effect_of s p) how; outcome = Made how }
+pub step_made : (s : State) (p : ℕ) (how : Move) → answer_of s p (effect_of s p) ≡ Ok how
+    → step_of s p ≡ record { state = stored s p (effect_of s p) how; outcome = Ok how }
 unfolding step_of
 step_made s p how made =
     ap (λ (o : Outcome). record { state = applied o s p (effect_of s p).task (effect_of s p).write; outcome = o }) made
-    ∙ ap (λ (x : State). record { state = x; outcome = Made how })
+    ∙ ap (λ (x : State). record { state = x; outcome = Ok how })
     (applied_stored s p (effect_of s p) (effect_does s p) how (made_by (effect_of s p).act _ (moves_at s p) (waits_at s p) how made).0)
 
 -- a turn that is refused leaves the state
-pub step_refused : (s : State) (p k : ℕ) → answer_of s p (effect_of s p) ≡ Refused k → step_of s p ≡ refused_turn s k
+pub step_refused : (s : State) (p k : ℕ) → answer_of s p (effect_of s p) ≡ Err k → step_of s p ≡ refused_turn s k
 unfolding step_of
 step_refused s p k e = rw e
 
 -- the two for a turn: what it is, by its line's outcome
 module _ (s : State) (p : ℕ) (ok : Valid s) (h : p < s.n) where
-  pub turn_made : (how : Move) → answer_of s p (effect_of s p) ≡ Made how → turn_of s p ≡ record { state = stored s p (effect_of s p) how; outcome = Made how }
+  pub turn_made : (how : Move) → answer_of s p (effect_of s p) ≡ Ok how → turn_of s p ≡ record { state = stored s p (effect_of s p) how; outcome = Ok how }
   turn_made how e = turn_step s p ok h ∙ step_made s p how e
 
-  pub turn_refused : (k : ℕ) → answer_of s p (effect_of s p) ≡ Refused k → turn_of s p ≡ refused_turn s k
+  pub turn_refused : (k : ℕ) → answer_of s p (effect_of s p) ≡ Err k → turn_of s p ≡ refused_turn s k
   turn_refused k e = turn_step s p ok h ∙ step_refused s p k e
 
 -- ---- what a turn never changes
@@ -395,11 +394,11 @@ pub moved_n : (s : State) (p : ℕ) (t : Task) (w : Write) → (moved_to s p t w
 moved_n s p t w = (constants_written w s p t).n
 
 constants_applied : (o : Outcome) (s : State) (p : ℕ) (t : Task) (w : Write) → Constants s (applied o s p t w)
-constants_applied (Made (Moved c)) s p t w =
+constants_applied (Ok (Moved c)) s p t w =
     let k = constants_written w s p t in
     record { kind = k.kind; n = k.n; modulus = k.modulus; parents = k.parents }
-constants_applied (Made Waited) s p t w = record { kind = refl; n = refl; modulus = refl; parents = refl }
-constants_applied (Refused k) s p t w = record { kind = refl; n = refl; modulus = refl; parents = refl }
+constants_applied (Ok Waited) s p t w = record { kind = refl; n = refl; modulus = refl; parents = refl }
+constants_applied (Err k) s p t w = record { kind = refl; n = refl; modulus = refl; parents = refl }
 
 pub turn_constants : (s : State) (p : ℕ) → Constants s (turn_of s p).state
 turn_constants s p = rw (turn_applied s p) (constants_applied (turn_of s p).outcome s p (effect_of s p).task (effect_of s p).write)
@@ -445,9 +444,9 @@ module _ {A : Type 0} (f : Task → A) where
 -- a field that is neither toggle nor flag, and that the task stored has as the own task had it
 kept_applied : (f : Task → ℕ) → ((t : Task) (x : ℕ) → (f (with_toggle t x) ≡ f t) × (f (with_flag t x) ≡ f t)) → (o : Outcome) (s : State) (p q : ℕ) (t : Task) (w : Write)
     → f t ≡ f (task_at s p) → f (task_at (applied o s p t w) q) ≡ f (task_at s q)
-kept_applied f apart (Made (Moved c)) s p q t w e = written_field f apart w (with_task s p t) q ∙ put_field f s p q t e
-kept_applied f apart (Made Waited) s p q t w e = refl
-kept_applied f apart (Refused k) s p q t w e = refl
+kept_applied f apart (Ok (Moved c)) s p q t w e = written_field f apart w (with_task s p t) q ∙ put_field f s p q t e
+kept_applied f apart (Ok Waited) s p q t w e = refl
+kept_applied f apart (Err k) s p q t w e = refl
 
 -- what a line keeps of its task, and what it does at 11
 pub effect_keeps : (s : State) (p : ℕ) → Kept (task_at s p) (effect_of s p)
@@ -474,9 +473,9 @@ length_written (Toggle q x) s p t = length-set (set s.tasks p t) q _ ∙ length-
 length_written (Flag q x) s p t = length-set (set s.tasks p t) q _ ∙ length-set s.tasks p t
 
 length_applied : (o : Outcome) (s : State) (p : ℕ) (t : Task) (w : Write) → length (applied o s p t w).tasks ≡ length s.tasks
-length_applied (Made (Moved closed)) s p t w = length_written w s p t
-length_applied (Made Waited) s p t w = refl
-length_applied (Refused k) s p t w = refl
+length_applied (Ok (Moved closed)) s p t w = length_written w s p t
+length_applied (Ok Waited) s p t w = refl
+length_applied (Err k) s p t w = refl
 
 -- no turn changes that
 pub turn_length : (s : State) (p : ℕ) → length (turn_of s p).state.tasks ≡ length s.tasks

@@ -4,12 +4,14 @@ use Rattle.bitset.specs.Choice.{pick}
 use Rattle.bitset.specs.Table.{table}
 use Rattle.lines.specs.declared.Task.{Task}
 use Rattle.lines.specs.Setters.{zero_task, with_line, with_start, with_work, with_left, with_own}
+use Rattle.reason.specs.Checked.{checked}
 use Rattle.setup.specs.Kinds.{has_sense}
 use Rattle.setup.specs.Tables.{starts_reason, works_reason, start_of, work_of}
 use Rattle.setup.specs.Reasons.{first_reason, setup_reason}
 use Rattle.machine.specs.declared.State.{State}
 use Rattle.machine.specs.declared.Setup.{Setup}
-use Rattle.machine.specs.declared.Fresh.{Fresh}
+use Rattle.machine.specs.declared.Tables.{Tables}
+use Rattle.machine.specs.declared.Fresh as code
 
 -- what a fresh state is made from: kind, N, R, and the tables of parents, of starts and of work lengths
 pub record Inputs : Type 0 where
@@ -23,6 +25,10 @@ pub record Inputs : Type 0 where
 abbrev pub inputs_of : Setup → List ℕ → List ℕ → List ℕ → Inputs
 inputs_of setup parents starts works =
     record { kind = setup.kind; n = setup.n; modulus = setup.modulus; parents = parents; starts = starts; works = works }
+
+-- the same by what a call is given
+abbrev pub given : Setup → Tables → Inputs
+given setup tables = inputs_of setup tables.parents.now tables.starts.now tables.works.now
 
 -- "A fresh state checks 2 to 6"; 12 "follows 6", and 15 "follows 12": the first reason that applies, 0 if none does
 unfoldable pub fresh_reason : Inputs → ℕ
@@ -89,9 +95,18 @@ zero_state =
       tasks = replicate 64 zero_task;
     }
 
+-- what a fresh state's call answers: the state, and the reason that refused it, 0 if none did
+pub record Fresh : Type 0 where
+  pub state : State
+  pub reason : ℕ
+
 unfoldable pub fresh_of : Inputs → Fresh
 fresh_of i =
     record {
       state = pick (eqb (fresh_reason i) 0) (fresh_state i) zero_state;
       reason = fresh_reason i;
     }
+
+-- the same as the code says it
+abbrev pub told : Fresh → code.Fresh
+told f = record { state = f.state; made = checked f.reason }

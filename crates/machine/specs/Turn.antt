@@ -1,5 +1,5 @@
 -- A turn (01, "The state and a turn"): what its line does to the state, what it answers, and the refusals.
-use Rattle.std.specs.Prelude.{Bool, true, false, ℕ, eqb, ltb}
+use Rattle.std.specs.Prelude.{Bool, true, false, ℕ, eqb, ltb, Ok, Err}
 use Rattle.bitset.specs.Choice.{pick}
 use Rattle.lines.specs.declared.Task.{Task}
 use Rattle.lines.specs.declared.Effect.{Effect}
@@ -12,8 +12,7 @@ use Rattle.lines.specs.Rule.{effect_from}
 use Rattle.machine.specs.declared.State.{State}
 use Rattle.machine.specs.declared.Move.{Move}
 use Rattle.machine.specs.declared.Move.TheVariants.{Moved, Waited}
-use Rattle.machine.specs.declared.Outcome.{Outcome}
-use Rattle.machine.specs.declared.Outcome.TheVariants.{Made, Refused}
+use Rattle.machine.specs.Answers.{Outcome}
 use Rattle.machine.specs.declared.Turned.{Turned}
 use Rattle.machine.specs.Setters.{task_at, moves_at, waits_at, with_task, with_arrivals, with_sense}
 use Rattle.machine.specs.Tally.{max_tally, move_tallied, wait_tallied}
@@ -32,9 +31,9 @@ effect_of s p = effect_by s p (task_at s p)
 -- 02, P3: "13 is a turn that would raise a tally past its limit; a turn checks it after 11": a move would raise its task's tally of moves, a wait
 -- its tally of waits, and neither the other.
 abbrev pub outcome_of : Act → ℕ → ℕ → ℕ → Outcome
-outcome_of Moves closed moves waits = pick (ltb moves max_tally) (Made (Moved closed)) (Refused 13)
-outcome_of Waits closed moves waits = pick (ltb waits max_tally) (Made Waited) (Refused 13)
-outcome_of (Refuses k) closed moves waits = Refused k
+outcome_of Moves closed moves waits = pick (ltb moves max_tally) (Ok (Moved closed)) (Err 13)
+outcome_of Waits closed moves waits = pick (ltb waits max_tally) (Ok Waited) (Err 13)
+outcome_of (Refuses k) closed moves waits = Err k
 
 -- the state with a shared word written
 abbrev pub written : Write → State → State
@@ -55,9 +54,9 @@ answer_of s p e = outcome_of e.act (closed_by s (moved_to s p e.task e.write)) (
 -- what the outcome makes of the state. 02, P3: a move is tallied too, and "a turn that waits now raises its task's wait tally by one and nothing
 -- else". A refused turn leaves the state, and tallies nothing.
 abbrev pub applied : Outcome → State → ℕ → Task → Write → State
-applied (Made (Moved closed)) s p t w = move_tallied (moved_to s p t w) p
-applied (Made Waited) s p t w = wait_tallied s p
-applied (Refused k) s p t w = s
+applied (Ok (Moved closed)) s p t w = move_tallied (moved_to s p t w) p
+applied (Ok Waited) s p t w = wait_tallied s p
+applied (Err k) s p t w = s
 
 -- one line of the task p, with the refusals of the line, reason 7 at line 13 of kind 1 or 4 and reason 11, and then reason 13
 unfoldable pub step_of : State → ℕ → Turned
@@ -68,7 +67,7 @@ step_of s p =
 
 -- a refused call "returns its number and the state it got"
 abbrev pub refused_turn : State → ℕ → Turned
-refused_turn s k = record { state = s; outcome = Refused k }
+refused_turn s k = record { state = s; outcome = Err k }
 
 -- "A turn 7, 9, 11", and 13 after it; 9: "A task number is N or more"
 unfoldable pub turn_of : State → ℕ → Turned
@@ -88,8 +87,8 @@ wait_number (Moved closed) = 0
 wait_number Waited = 1
 
 abbrev pub reason_number : Outcome → ℕ
-reason_number (Made m) = 0
-reason_number (Refused k) = k
+reason_number (Ok m) = 0
+reason_number (Err k) = k
 
 -- what the answer of a turn that was made carries: 1 if it closed a round, else 0; one that waited carries nothing, and closed none
 abbrev pub closed_number : Move → ℕ
@@ -98,6 +97,6 @@ closed_number Waited = 0
 
 -- whether the answer is moved
 abbrev pub is_moved : Outcome → Bool
-is_moved (Made (Moved closed)) = true
-is_moved (Made Waited) = false
-is_moved (Refused k) = false
+is_moved (Ok (Moved closed)) = true
+is_moved (Ok Waited) = false
+is_moved (Err k) = false

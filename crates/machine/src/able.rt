@@ -1,46 +1,47 @@
 // Ready. specs/Ready.antt defines it.
 ghost use Rattle.std.specs.Prelude.{◌≡◌};
-ghost use Rattle.machine.specs.Range.{Valid};
 ghost use Rattle.machine.specs.Ready as defs;
 
-use crate::{Outcome, Readied, Ready, State, turn};
+use crate::valid::ValidState;
+use crate::{Move, Readied, State, turn};
+use reason::Refusal;
 
-impl State {
-    // The least task that can move, of a state in range: one whose tally of moves is at its limit can't. Whether it would close a round is not
-    // asked.
-    fn able(self) -> Ready
-        requires { Valid self }
-        ensures { result ≡ defs.ready_from self self.n 0 }
+impl ValidState {
+    // The least task that can move: one whose tally of moves is at its limit can't. Whether it would close a round is not
+    // asked. A loop and no `find`: what `effect` requires would be its closure's to show, and that is no plainer.
+    fn able(self) -> Option<usize>
+        ensures { Ok result ≡ defs.ready_from self.state self.state.n 0 }
     {
-        let n = self.n as usize;
-        let mut q = 0;
-        while q < n {
+        let state = self.state;
+        for q in 0..state.n as usize {
             let effect = self.effect(q);
             let act = effect.act;
-            let moves = self.moves[q];
-            let waits = self.waits[q];
-            if turn::is_moved(Outcome::of(act, 0, moves, waits)) {
-                return Ready::Task(q);
+            let moves = state.moves[q];
+            let waits = state.waits[q];
+            if turn::is_moved(Move::of(act, 0, moves, waits)) {
+                return Some(q);
             }
-            q += 1;
         }
-        Ready::Nobody
+        None
+    }
+}
+
+impl State {
+    // Who can move, if the state is in range.
+    fn asked(self) -> Result<Option<usize>, Refusal>
+        ensures { result ≡ (defs.ready_of self).ready }
+    {
+        let valid = self.valid()?;
+        Ok(valid.able())
     }
 
     // Who can move; the state is handed back as it was.
     pub fn ready(self) -> Readied
         ensures { result ≡ defs.ready_of self }
     {
-        let reason = self.check();
-        if reason != 0 {
-            return Readied {
-                state: self,
-                ready: Ready::Refused(reason),
-            };
-        }
         Readied {
             state: self,
-            ready: self.able(),
+            ready: self.asked(),
         }
     }
 }

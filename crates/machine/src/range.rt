@@ -1,17 +1,29 @@
 // The range of a state. specs/Range.antt defines each.
-ghost use Rattle.std.specs.Prelude.{◌≡◌, min};
+ghost use Rattle.std.specs.Prelude.{◌≡◌, eqb, min, IfOk};
+ghost use Rattle.parents.specs.Parents.{check_of};
+ghost use Rattle.reason.specs.Checked.{checked, unit_of};
 ghost use Rattle.setup.specs.Range.{place_ok};
 ghost use Rattle.machine.specs.Range as defs;
 
+use crate::valid::ValidState;
 use crate::{MAX_TALLY, State};
+use kind::Kind;
 use lines::{Shared, Task};
+use reason::{Reason, Refusal};
 use setup::tables;
 
 // How many of the 64 entries are the table of n tasks.
 fn table_length(n: u8) -> usize
     ensures { result ≡ min n 64 }
 {
-    if n < 64 { n as usize } else { 64 }
+    (n as usize).min(64)
+}
+
+// Whether the table's check accepts it.
+fn is_tree(table: &[u8], n: usize) -> bool
+    ensures { result ≡ eqb (check_of table.now n) 0 }
+{
+    parents::check(table, n).is_ok()
 }
 
 // Whether a tally of task q is as it must be: at most its limit below n, and 0 from n on.
@@ -48,18 +60,17 @@ impl State {
         setup::range::place_ok(self.shared(), &parents[..length], q, task)
     }
 
-    // Whether all 64 tasks and their tallies are as they must be.
+    // Whether all 64 tasks and their tallies are as they must be. A loop and no `all`, which would be no plainer: they stand in three arrays, so that
+    // it would go over the numbers too.
     fn tasks_ok(self) -> bool
         ensures { result ≡ defs.tasks_ok self 64 }
     {
         let n = self.n as usize;
         let mut ok = true;
-        let mut q = 0;
-        while q < 64 {
+        for q in 0..64 {
             let task = self.tasks[q];
             let tallies = tally_ok(n, q, self.moves[q]) & tally_ok(n, q, self.waits[q]);
             ok = ok & (self.place_ok(q, task) & tallies);
-            q += 1;
         }
         ok
     }
@@ -69,13 +80,12 @@ impl State {
         ensures { result ≡ defs.parents_ok self }
     {
         let parents = self.parents;
-        if self.kind != 3 {
+        if self.kind as usize != Kind::Tree.number() {
             return tables::all_within(0, 1, &parents);
         }
         let length = table_length(self.n);
         let rest = tables::all_within(0, 1, &parents[length..]);
-        let of_table = tables::parents_reason(3, self.n as usize, &parents[..length]);
-        (of_table == 0) & rest
+        is_tree(&parents[..length], self.n as usize) & rest
     }
 
     // Whether every field is in range.
@@ -85,10 +95,15 @@ impl State {
         setup::range::shared_ok(self.shared()) & self.parents_ok() & self.tasks_ok()
     }
 
-    // 0, or the reason that refuses the state: 7 where a field is out of range.
-    pub fn check(self) -> u8
-        ensures { result ≡ defs.check_state self }
+    // The state as one in range; refused where a field is out of range.
+    pub fn valid(self) -> Result<ValidState, Refusal>
+        ensures told { unit_of result ≡ checked (defs.check_state self) }
+        ensures value { IfOk result (λ valid. valid.state ≡ self) }
     {
-        if self.in_range() { 0 } else { 7 }
+        if self.in_range() {
+            Ok(ValidState { state: self })
+        } else {
+            Err(Reason::Range.into())
+        }
     }
 }

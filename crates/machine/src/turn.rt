@@ -1,22 +1,17 @@
 // A turn: what its line does to the state, and the refusals. specs/Turn.antt defines each.
 ghost use Rattle.std.specs.Prelude.{◌≡◌, ◌<◌};
-ghost use Rattle.machine.specs.Range.{Valid};
 ghost use Rattle.machine.specs.Turn as defs;
 
-use crate::{MAX_TALLY, Move, Outcome, State, Turned};
+use crate::valid::ValidState;
+use crate::{MAX_TALLY, Move, State, Turned};
 use lines::{Act, Effect, rule};
+use reason::{Reason, Refusal};
 
 // Whether the answer is moved.
-pub(crate) fn is_moved(outcome: Outcome) -> bool
+pub(crate) fn is_moved(outcome: Result<Move, Refusal>) -> bool
     ensures { result ≡ defs.is_moved outcome }
 {
-    match outcome {
-        Outcome::Made(how) => match how {
-            Move::Moved(_) => true,
-            Move::Waited => false,
-        },
-        Outcome::Refused(_) => false,
-    }
+    matches!(outcome, Ok(Move::Moved(_)))
 }
 
 impl Move {
@@ -29,92 +24,76 @@ impl Move {
             Move::Waited => 0,
         }
     }
-}
 
-impl Outcome {
     // What a turn answers, by its line's own outcome, whether a move closes a round, and its task's tallies of moves and of waits: the one that
     // the turn would raise must be below its limit.
-    pub fn of(act: Act, closed: u8, moves: u32, waits: u32) -> Outcome
+    pub fn of(act: Act, closed: u8, moves: u32, waits: u32) -> Result<Move, Refusal>
         ensures { result ≡ defs.outcome_of act closed moves waits }
     {
         match act {
-            Act::Moves => {
-                if moves < MAX_TALLY {
-                    Outcome::Made(Move::Moved(closed))
-                } else {
-                    Outcome::Refused(13)
-                }
-            }
-            Act::Waits => {
-                if waits < MAX_TALLY {
-                    Outcome::Made(Move::Waited)
-                } else {
-                    Outcome::Refused(13)
-                }
-            }
-            Act::Refuses(reason) => Outcome::Refused(reason),
-        }
-    }
-
-    // The reason that refused a turn; 0 where none did.
-    pub fn reason(self) -> u8
-        ensures { result ≡ defs.reason_number self }
-    {
-        match self {
-            Outcome::Made(_) => 0,
-            Outcome::Refused(reason) => reason,
+            Act::Moves if moves < MAX_TALLY => Ok(Move::Moved(closed)),
+            Act::Waits if waits < MAX_TALLY => Ok(Move::Waited),
+            Act::Moves | Act::Waits => Err(Reason::TallyLimit.into()),
+            Act::Refuses(refusal) => Err(refusal),
         }
     }
 }
 
-impl State {
-    // What the line of a known task does, in a state in range: what it reads is gathered, and the rule applied.
+impl ValidState {
+    // What the line of a known task does: what it reads is gathered, and the rule applied.
     pub(crate) fn effect(self, task: usize) -> Effect
-        requires valid { Valid self }
-        requires task_lt_n { task < self.n }
-        ensures { result ≡ defs.effect_of self task }
+        requires { task < self.state.n }
+        ensures { result ≡ defs.effect_of self.state task }
     {
-        let own = self.tasks[task];
+        let state = self.state;
+        let own = state.tasks[task];
         let looked = own.looked as usize;
-        let seen = self.tasks[looked];
-        let parents = self.parents;
-        let n = self.n as usize;
-        rule::effect_of(self.shared(), &parents[..n], task, own, seen)
+        let seen = state.tasks[looked];
+        let parents = state.parents;
+        let n = state.n as usize;
+        rule::effect_of(state.shared(), &parents[..n], task, own, seen)
     }
 
-    // One line of a known task, in a state in range. All that the effect has is stored, whether it moves or waits: where it waits, that is
-    // what stood there. Both tallies are stored too: a move adds 1 and 0 to them, a wait 0 and 1.
-    fn step(mut self, task: usize) -> Turned
-        requires valid { Valid self }
-        requires task_lt_n { task < self.n }
-        ensures { result ≡ defs.step_of self task }
+    // One line of a known task. All that the effect has is stored, whether it moves or waits: where it waits, that is
+    // what stood there. Both tallies are stored too: a move adds 1 and 0 to them, a wait 0 and 1. The run's loop
+    // makes these steps itself: calling this, it copied the state twice a turn, which missed the bar of speed (docs/DECISIONS.md).
+    fn step(self, task: usize) -> Turned
+        requires { task < self.state.n }
+        ensures { result ≡ defs.step_of self.state task }
     {
+        let mut state = self.state;
         let effect = self.effect(task);
         let act = effect.act;
         let next = effect.task;
         let closed = self.closes(task, next.count);
-        let moves = self.moves[task];
-        let waits = self.waits[task];
-        let outcome = Outcome::of(act, closed, moves, waits);
-        let Outcome::Made(how) = outcome else {
-            return Turned {
-                state: self,
-                outcome,
-            };
+        let moves = state.moves[task];
+        let waits = state.waits[task];
+        let outcome = Move::of(act, closed, moves, waits);
+        let Ok(how) = outcome else {
+            return Turned { state, outcome };
         };
         let moved = how.number();
         let write = effect.write;
-        self.moves[task] = moves + moved as u32;
-        self.waits[task] = waits + (1 - moved) as u32;
-        self.tasks[task] = next;
-        self.arrivals = write.arrivals(self.arrivals);
-        self.sense = write.sense(self.sense);
+        state.moves[task] = moves + moved as u32;
+        state.waits[task] = waits + (1 - moved) as u32;
+        state.tasks[task] = next;
+        state.arrivals = write.arrivals(state.arrivals);
+        state.sense = write.sense(state.sense);
         let place = write.place(task);
-        let there = self.tasks[place];
-        self.tasks[place] = write.task(there);
+        let there = state.tasks[place];
+        state.tasks[place] = write.task(there);
+        Turned { state, outcome }
+    }
+}
+
+impl State {
+    // A turn that is refused leaves the state as it was.
+    fn refused(self, refusal: Refusal) -> Turned
+        ensures { result ≡ defs.refused_turn self refusal }
+    {
         Turned {
             state: self,
-            outcome,
+            outcome: Err(refusal),
         }
     }
 
@@ -122,19 +101,10 @@ impl State {
     pub fn turn(self, task: usize) -> Turned
         ensures { result ≡ defs.turn_of self task }
     {
-        let reason = self.check();
-        if reason != 0 {
-            return Turned {
-                state: self,
-                outcome: Outcome::Refused(reason),
-            };
+        match self.valid() {
+            Ok(valid) if task < self.n as usize => valid.step(task),
+            Ok(_) => self.refused(Reason::Task.into()),
+            Err(refusal) => self.refused(refusal),
         }
-        if self.n as usize <= task {
-            return Turned {
-                state: self,
-                outcome: Outcome::Refused(9),
-            };
-        }
-        self.step(task)
     }
 }

@@ -1,169 +1,146 @@
-// The numbers that a program outside is told an answer by: of each enum its reason, 0 where nothing was refused, and what else it carries. The
-// definitions stand with the enums, or in specs/Numbers.antt.
+// The numbers that a program outside is told an answer by: of each its reason, 0 where nothing was refused, and what else it carries. The
+// definitions stand with those of the answers, or in specs/Numbers.antt.
 #![tactic(auto)]
 
 ghost use Rattle.std.specs.Prelude.{◌≡◌};
-ghost use Rattle.machine.specs.Turn.{closed_number};
 ghost use Rattle.machine.specs.Ready.{ready_reason, ready_number};
 ghost use Rattle.runner.specs.Run.{ending_reason};
 ghost use Rattle.playback.specs.Playback.{verdict_reason, verdict_agrees, verdict_index};
-ghost use Rattle.parents.specs.Shapes.{shape_number};
 ghost use Rattle.schedule.specs.Passes.{passes_reason, passes_count, passes_place};
 ghost use Rattle.numbers.specs.Numbers as defs;
 
-use machine::{Move, Outcome, Ready};
-use parents::Shaped;
+use machine::Move;
 use playback::Verdict;
+use reason::{PlacedRefusal, Refusal};
 use runner::Ending;
-use schedule::answer::Passes;
+
+// The number of the reason that refused a call; 0 where nothing was refused. Here and below an answer is lent: tried, the borrow checker does not
+// cover a function that passes a `Result` by value twice, though it is `Copy`.
+pub fn refused_reason<T: Copy>(answer: &Result<T, Refusal>) -> u8
+    ensures { result ≡ defs.refused_reason answer.now }
+{
+    match *answer {
+        Ok(_) => 0,
+        Err(refusal) => refusal.number(),
+    }
+}
 
 // The reason that an ending gives.
-pub fn ending_reason(ending: Ending) -> u8
-    ensures { result ≡ ending_reason ending }
+pub fn ending_reason(ending: &Ending) -> u8
+    ensures { result ≡ ending_reason ending.now }
 {
-    match ending {
-        Ending::Done => 0,
-        Ending::Spent => 0,
-        Ending::Stopped(reason) => reason,
-        Ending::Refused(reason, _) => reason,
+    match *ending {
+        Ending::Done | Ending::Spent => 0,
+        Ending::Stopped(refusal) => refusal.number(),
+        Ending::Refused(refused) => refused.refusal.number(),
     }
 }
 
 // The place that an ending gives; 0 but for reason 9.
-pub fn ending_place(ending: Ending) -> usize
-    ensures { result ≡ defs.ending_place ending }
+pub fn ending_place(ending: &Ending) -> usize
+    ensures { result ≡ defs.ending_place ending.now }
 {
-    match ending {
-        Ending::Done => 0,
-        Ending::Spent => 0,
-        Ending::Stopped(_) => 0,
-        Ending::Refused(_, place) => place,
+    match *ending {
+        Ending::Done | Ending::Spent | Ending::Stopped(_) => 0,
+        Ending::Refused(refused) => refused.place,
     }
 }
 
 // 1 if a turn moved, 0 if it waited or was refused.
-pub fn turn_number(outcome: Outcome) -> u8
-    ensures { result ≡ defs.turn_number outcome }
+pub fn turn_number(outcome: &Result<Move, Refusal>) -> u8
+    ensures { result ≡ defs.turn_number outcome.now }
 {
-    match outcome {
-        Outcome::Made(how) => how.number(),
-        Outcome::Refused(_) => 0,
-    }
-}
-
-// 1 for a move that closed a round, else 0.
-fn move_closed(how: Move) -> u8
-    ensures { result ≡ closed_number how }
-{
-    match how {
-        Move::Moved(closed) => closed,
-        Move::Waited => 0,
+    match *outcome {
+        Ok(how) => how.number(),
+        Err(_) => 0,
     }
 }
 
 // 1 if a turn closed a round, 0 if it did not or was refused.
-pub fn turn_closed(outcome: Outcome) -> u8
-    ensures { result ≡ defs.turn_closed outcome }
+pub fn turn_closed(outcome: &Result<Move, Refusal>) -> u8
+    ensures { result ≡ defs.turn_closed outcome.now }
 {
-    let Outcome::Made(how) = outcome else {
-        return 0;
-    };
-    move_closed(how)
-}
-
-// The reason that refused to say who is ready.
-pub fn ready_reason(ready: Ready) -> u8
-    ensures { result ≡ ready_reason ready }
-{
-    match ready {
-        Ready::Task(_) => 0,
-        Ready::Nobody => 0,
-        Ready::Refused(reason) => reason,
+    match *outcome {
+        Ok(Move::Moved(closed)) => closed,
+        Ok(Move::Waited) | Err(_) => 0,
     }
 }
 
-// The task that is ready, 64 for nobody.
-pub fn ready_number(ready: Ready) -> usize
-    ensures { result ≡ ready_number ready }
+// The reason that refused to say who is ready. It, `shape_reason` and `verdict_reason` are but `refused_reason`, and stay since they are public.
+pub fn ready_reason(ready: &Result<Option<usize>, Refusal>) -> u8
+    ensures { result ≡ ready_reason ready.now }
 {
-    match ready {
-        Ready::Task(task) => task,
-        Ready::Nobody => 64,
-        Ready::Refused(_) => 0,
+    refused_reason(ready)
+}
+
+// The task that is ready, 64 for nobody.
+pub fn ready_number(ready: &Result<Option<usize>, Refusal>) -> usize
+    ensures { result ≡ ready_number ready.now }
+{
+    match *ready {
+        Ok(Some(task)) => task,
+        Ok(None) => 64,
+        Err(_) => 0,
     }
 }
 
 // The reason that refused passes.
-pub fn passes_reason(passes: Passes) -> u8
-    ensures { result ≡ passes_reason passes }
+pub fn passes_reason(passes: &Result<usize, PlacedRefusal>) -> u8
+    ensures { result ≡ passes_reason passes.now }
 {
-    match passes {
-        Passes::Count(_) => 0,
-        Passes::Refused(reason, _) => reason,
+    match *passes {
+        Ok(_) => 0,
+        Err(refused) => refused.refusal.number(),
     }
 }
 
 // The number of passes; 0 where they were refused.
-pub fn passes_count(passes: Passes) -> usize
-    ensures { result ≡ passes_count passes }
+pub fn passes_count(passes: &Result<usize, PlacedRefusal>) -> usize
+    ensures { result ≡ passes_count passes.now }
 {
-    match passes {
-        Passes::Count(count) => count,
-        Passes::Refused(_, _) => 0,
-    }
+    passes.unwrap_or(0)
 }
 
 // The place of a refusal; 0 but for reason 9.
-pub fn passes_place(passes: Passes) -> usize
-    ensures { result ≡ passes_place passes }
+pub fn passes_place(passes: &Result<usize, PlacedRefusal>) -> usize
+    ensures { result ≡ passes_place passes.now }
 {
     match passes {
-        Passes::Count(_) => 0,
-        Passes::Refused(_, place) => place,
+        Ok(_) => 0,
+        Err(refused) => refused.place,
     }
 }
 
 // The reason that refused a shape.
-pub fn shape_reason(shaped: Shaped) -> u8
-    ensures { result ≡ shape_number shaped }
+pub fn shape_reason(shaped: &Result<(), Refusal>) -> u8
+    ensures { result ≡ defs.refused_reason shaped.now }
 {
-    match shaped {
-        Shaped::Written => 0,
-        Shaped::UnknownShape => 2,
-        Shaped::WrongCount => 3,
-        Shaped::ShortTable => 10,
-    }
+    refused_reason(shaped)
 }
 
 // The reason that refused a play-back.
-pub fn verdict_reason(verdict: Verdict) -> u8
-    ensures { result ≡ verdict_reason verdict }
+pub fn verdict_reason(verdict: &Result<Verdict, Refusal>) -> u8
+    ensures { result ≡ verdict_reason verdict.now }
 {
-    match verdict {
-        Verdict::Agrees => 0,
-        Verdict::Differs(_) => 0,
-        Verdict::Refused(reason) => reason,
-    }
+    refused_reason(verdict)
 }
 
 // 1 for a trace that agrees, else 0.
-pub fn verdict_agrees(verdict: Verdict) -> u8
-    ensures { result ≡ verdict_agrees verdict }
+pub fn verdict_agrees(verdict: &Result<Verdict, Refusal>) -> u8
+    ensures { result ≡ verdict_agrees verdict.now }
 {
-    match verdict {
-        Verdict::Agrees => 1,
-        Verdict::Differs(_) => 0,
-        Verdict::Refused(_) => 0,
+    match *verdict {
+        Ok(Verdict::Agrees) => 1,
+        Ok(Verdict::Differs(_)) | Err(_) => 0,
     }
 }
 
 // The index of the first triple that differs; 0 where none is told.
-pub fn verdict_index(verdict: Verdict) -> usize
-    ensures { result ≡ verdict_index verdict }
+pub fn verdict_index(verdict: &Result<Verdict, Refusal>) -> usize
+    ensures { result ≡ verdict_index verdict.now }
 {
-    match verdict {
-        Verdict::Agrees => 0,
-        Verdict::Differs(index) => index,
-        Verdict::Refused(_) => 0,
+    match *verdict {
+        Ok(Verdict::Differs(index)) => index,
+        Ok(Verdict::Agrees) | Err(_) => 0,
     }
 }

@@ -2,8 +2,6 @@
 use Rattle.std.specs.Prelude.{◌≡◌, Bool, true, ◌&&◌, not, List, ℕ, zero, suc, ◌<◌, eqb, ltb, length, get_or}
 use Rattle.bitset.specs.Choice.{pick}
 use Rattle.bitset.specs.Set.{with_of}
-use Rattle.parents.specs.declared.Checked.{Checked}
-use Rattle.parents.specs.declared.Checked.TheVariants.{Accepted, WrongLength, NotLower}
 
 -- the parent of task q
 abbrev pub parent_of : List ℕ → ℕ → ℕ
@@ -24,12 +22,6 @@ entry_ok table q = pick (eqb q 0) (eqb (parent_of table q) 0) (ltb (parent_of ta
 unfoldable pub entries_ok : List ℕ → ℕ → Bool
 entries_ok table zero = true
 entries_ok table (suc q) = entries_ok table q && entry_ok table q
-
--- the paper's number of an answer
-abbrev pub check_number : Checked → ℕ
-check_number Accepted = 0
-check_number WrongLength = 5
-check_number NotLower = 6
 
 -- 5: "The parent table's length isn't N for a tree"; then 6; 0 if the table is accepted
 unfoldable pub check_of : List ℕ → ℕ → ℕ

@@ -3,12 +3,19 @@ use Rattle.std.specs.Prelude.{Bool, List, [], ◌∷◌, ◌++◌, ℕ, zero, su
 use Rattle.std.specs.Int.Count.{count_trailing_zeros}
 use Rattle.bitset.specs.Choice.{pick}
 use Rattle.bitset.specs.Tasks.{is_count}
-use Rattle.parents.specs.declared.Shaped.{Shaped}
-use Rattle.parents.specs.declared.Shaped.TheVariants.{Written, UnknownShape, WrongCount, ShortTable}
+use Rattle.parents.specs.declared.TreeShape.{TreeShape}
+use Rattle.parents.specs.declared.TreeShape.TheVariants.{Flat, Linear, Binary, LowPower}
 
 -- the highest power of two that divides q; the exponent is the number of trailing zeros
 abbrev pub power_of : ℕ → ℕ
 power_of q = 2 ^ count_trailing_zeros 64 q
+
+-- the number of each shape
+abbrev pub number_of : TreeShape → ℕ
+number_of Flat = 0
+number_of Linear = 1
+number_of Binary = 2
+number_of LowPower = 3
 
 -- "0 flat (parent 0), 1 linear (q − 1), 2 binary ((q − 1) / 2 rounded down), 3 low power (q minus the highest power of two that
 -- divides q)". A difference stops at 0, so the root's entry is 0 in each.
@@ -27,13 +34,6 @@ shape_table shape (suc q) = shape_table shape q ++ shape_parent shape q ∷ []
 -- 2: "The kind, or the shape, isn't 0 to 3". 02, P7: "shapes keep 0 to 3"; the kinds' limit is another (`is_kind` in setup).
 abbrev pub is_shape : ℕ → Bool
 is_shape shape = leb shape 3
-
--- the paper's number of an answer
-abbrev pub shape_number : Shaped → ℕ
-shape_number Written = 0
-shape_number UnknownShape = 2
-shape_number WrongCount = 3
-shape_number ShortTable = 10
 
 -- "Shapes 2, 3, 10"; 10: a "table under N", of `room` bytes here; 0 if the shape is written
 unfoldable pub shape_of : ℕ → ℕ → ℕ → ℕ

@@ -2,18 +2,13 @@
 // defined in specs/Parents.antt and specs/Shapes.antt.
 #![tactic(auto)]
 
-ghost use Rattle.std.specs.Prelude.{◌≡◌, ◌≤◌, ◌++◌, eqb, ltb, length, drop};
+ghost use Rattle.std.specs.Prelude.{◌≡◌, ◌≤◌, ◌<◌, ◌++◌, MatchResult, eqb, ltb, length, drop};
+ghost use Rattle.reason.specs.Checked.{checked};
 ghost use Rattle.bitset.specs.Choice.{pick};
-ghost use Rattle.parents.specs.Parents.{check_number, check_of, children_of};
-ghost use Rattle.parents.specs.Shapes.{shape_parent, shape_table, shape_number, shape_of, table_after};
+ghost use Rattle.parents.specs.Parents.{check_of, children_of};
+ghost use Rattle.parents.specs.Shapes.{number_of, shape_parent, shape_table, shape_of, table_after};
 
-// What the check of a table answers. specs/Parents.antt gives the numbers: 0, 5, 6.
-#[derive(Clone, Copy)]
-pub enum Checked {
-    Accepted,
-    WrongLength,
-    NotLower,
-}
+use reason::{Reason, Refusal};
 
 // Whether p may be the parent of task q: 0 for the root, a lower number for every other.
 fn entry_ok(q: usize, p: usize) -> bool
@@ -22,91 +17,101 @@ fn entry_ok(q: usize, p: usize) -> bool
     if q == 0 { p == 0 } else { p < q }
 }
 
-// Checks a table for n tasks: its length, and each entry.
-pub fn check(table: &[u8], n: usize) -> Checked
-    ensures { check_number result ≡ check_of table.now n }
+// Checks a table for n tasks: its length (5), and each entry (6).
+pub fn check(table: &[u8], n: usize) -> Result<(), Refusal>
+    ensures { result ≡ checked (check_of table.now n) }
 {
     if table.len() != n {
-        return Checked::WrongLength;
+        return Err(Reason::TableLength.into());
     }
-    let mut q = 0;
-    while q < n {
-        if !entry_ok(q, table[q] as usize) {
-            return Checked::NotLower;
+    for (q, p) in table.iter().enumerate() {
+        if !entry_ok(q, *p as usize) {
+            return Err(Reason::Parent.into());
         }
-        q += 1;
     }
-    Checked::Accepted
+    Ok(())
 }
 
-// The children of a task, as a set: the tasks but the root whose parent it is. One pass over the table.
+// The children of a task, as a set: the tasks but the root whose parent it is. One pass over the table. By index: in a loop over
+// `enumerate().skip(1)`, which was tried, the proof has no index.
 pub fn children(table: &[u8], task: usize) -> u64
     ensures { result ≡ children_of table.now task }
 {
     let mut list: u64 = 0;
-    if table.len() == 0 {
-        return list;
-    }
-    let mut r = 1;
-    while r < table.len() {
+    for r in 1..table.len() {
         if table[r] as usize == task {
             list = bitset::with(list, r);
         }
-        r += 1;
     }
     list
 }
 
-// What writing a shape answers. specs/Shapes.antt gives the numbers: 0, 2, 3, 10.
-#[derive(Clone, Copy)]
-pub enum Shaped {
-    Written,
-    UnknownShape,
-    WrongCount,
-    ShortTable,
+// The shapes, in the order of their numbers, 0 to 3.
+#[derive(Clone, Copy, Debug, PartialEq, Eq, Hash)]
+pub enum TreeShape {
+    Flat,
+    Linear,
+    Binary,
+    LowPower,
+}
+
+impl TryFrom<usize> for TreeShape {
+    type Error = Refusal;
+
+    // 2 where there is no such shape.
+    ghost try_from_gives = { λ n r. MatchResult r (λ s. number_of s ≡ n) (λ e. (e ≡ 2) × (3 < n)) };
+
+    fn try_from(number: usize) -> Result<TreeShape, Refusal> {
+        match number {
+            0 => Ok(TreeShape::Flat),
+            1 => Ok(TreeShape::Linear),
+            2 => Ok(TreeShape::Binary),
+            3 => Ok(TreeShape::LowPower),
+            _ => Err(Reason::Kind.into()),
+        }
+    }
 }
 
 // The parent of task q in a shape; the root's is 0.
-fn parent_in(shape: usize, q: usize) -> usize
-    ensures { result ≡ shape_parent shape q }
+fn parent_in(shape: TreeShape, q: usize) -> usize
+    ensures { result ≡ shape_parent (number_of shape) q }
 {
     if q == 0 {
         return 0;
     }
     match shape {
-        0 => 0,
-        1 => q - 1,
-        2 => (q - 1) / 2,
-        _ => bitset::without(q as u64, bitset::least(q as u64)) as usize,
+        TreeShape::Flat => 0,
+        TreeShape::Linear => q - 1,
+        TreeShape::Binary => (q - 1) / 2,
+        TreeShape::LowPower => bitset::without(q as u64, bitset::least(q as u64)) as usize,
     }
 }
 
-// Writes the parents of the tasks 0 to n - 1 to the first n bytes of the table.
-fn fill(shape: usize, n: usize, table: &mut [u8])
+// Writes the parents of the tasks 0 to n - 1 to the first n bytes of the table. By index: after a loop over `iter_mut` nothing is known
+// of the elements. The bound on n is a clause and no type, since this function alone asks it.
+fn fill(shape: TreeShape, n: usize, table: &mut [u8])
     requires { (n ≤ 64) × (n ≤ length table.old) }
-    ensures { table.new ≡ shape_table shape n ++ drop n table.old }
+    ensures { table.new ≡ shape_table (number_of shape) n ++ drop n table.old }
 {
-    let mut q = 0;
-    while q < n {
+    for q in 0..n {
         table[q] = parent_in(shape, q) as u8;
-        q += 1;
     }
 }
 
-// Writes a shape's table for n tasks to the first n bytes of the table.
-pub fn shape(shape: usize, n: usize, table: &mut [u8]) -> Shaped
-    ensures result_value { shape_number result ≡ shape_of shape n (length table.old) }
+// Writes a shape's table for n tasks to the first n bytes of the table; refused for the shape (2), n (3) and the room (10).
+// The shape is a number, since `shape_of` refuses one that there is not.
+#[tactic(auto, unfolding(crate::specs::Shapes::shape_of, crate::specs::Shapes::table_after))]
+pub fn shape(shape: usize, n: usize, table: &mut [u8]) -> Result<(), Refusal>
+    ensures result_value { result ≡ checked (shape_of shape n (length table.old)) }
     ensures table_after { table.new ≡ table_after shape n table.old }
 {
-    if 3 < shape {
-        return Shaped::UnknownShape;
-    }
+    let shape = TreeShape::try_from(shape)?;
     if !bitset::is_count(n) {
-        return Shaped::WrongCount;
+        return Err(Reason::Count.into());
     }
     if table.len() < n {
-        return Shaped::ShortTable;
+        return Err(Reason::Room.into());
     }
     fill(shape, n, table);
-    Shaped::Written
+    Ok(())
 }

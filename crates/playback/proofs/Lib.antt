@@ -3,3 +3,4 @@ pub mod Gathering
 pub mod Comparing
 pub mod Runs
 pub mod Playing
+pub mod Admitting

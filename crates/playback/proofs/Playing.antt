@@ -1,11 +1,7 @@
 -- The loop of `play_from`: what is left of the trace is played from the state reached.
-use mathlib.Core.Path.{◌≡◌, refl, sym, ap, ◌∙◌, subst}
-use mathlib.Core.List.{List, ◌++◌}
-use Prim.Native.Nat.{ℕ, ◌+◌, ◌-◌, ◌/◌, ◌%◌, ◌≤◌, ◌<◌, min}
-use native.Mathlib.Omega.{arith}
-use lib.Dec.{eqb}
-use lib.ListN.{length, take, drop, length-take, length-drop, take-append-drop, drop_of_length-le}
-use lib.Seq.{drop-drop}
+use Rattle.std.specs.Prelude.{◌≡◌, refl, List, ◌++◌, ℕ, ◌+◌, ◌*◌, ◌-◌, ◌/◌, ◌%◌, ◌≤◌, ◌<◌, min, eqb, length, Ok}
+use Rattle.std.proofs.Common.{sym, ap, ◌∙◌, subst, arith, length-append}
+use Rattle.std.proofs.Math.Decide.{ℕ_discrete}
 use Rattle.bitset.specs.ChoiceLaws.{by_test}
 use Rattle.machine.specs.declared.State.{State}
 use Rattle.machine.specs.Range.{Valid}
@@ -15,53 +11,57 @@ use Rattle.playback.specs.declared.Played.{Played}
 use Rattle.playback.specs.declared.Verdict.TheVariants as verdict
 use Rattle.playback.specs.Playback.{triples_of, play_from}
 use Rattle.playback.specs.Steps.{Reports}
-use Rattle.playback.specs.StepsLaws.{length_triples, triples_append, part_on, part_off}
-use Rattle.playback.specs.PlaybackLaws.{play_keeps}
+use Rattle.playback.specs.StepsLaws.{length_triples, short, triples_append, part_on, part_off}
+use Rattle.playback.specs.PlaybackLaws.{from_none, play_keeps}
 
--- in front of the byte `at`, which begins a triple
-pub record Playing (trace : List ℕ) (s₀ s : State) (at : ℕ) : Type 0 where
-  pub within : at ≤ length trace
-  pub whole : at % 3 ≡ 0
+-- in front of the bytes `rest`, after i parts
+pub record Playing (trace : List ℕ) (s₀ s : State) (i : ℕ) (rest : List ℕ) : Type 0 where
+  pub left : length rest ≡ length trace - 12288 * i
+  pub whole : length rest % 3 ≡ 0
   pub valid : Valid s
-  pub played : play_from s₀ 0 (triples_of trace) ≡ play_from s (at / 3) (triples_of (drop at trace))
+  pub played : play_from s₀ 0 (triples_of trace) ≡ play_from s (4096 * i) (triples_of rest)
 
--- the part from there to `end`
-module _ {trace : List ℕ} {s₀ s : State} {at : ℕ} (w : Playing trace s₀ s at) (pre : length trace % 3 ≡ 0) (end : ℕ) (is : end ≡ min (at + 12288) (length trace)) (l : at < length trace) where
-  abbrev piece : List ℕ
-  piece = take (end - at) (drop at trace)
-
-  pub piece_length : length piece ≡ end - at
-  piece_length = length-take (end - at) (drop at trace) ∙ omega (arith, length-drop at trace, is)
-
-  cut : drop at trace ≡ piece ++ drop end trace
-  cut =
-      let there : at + (end - at) ≡ end = omega (arith, is) in
-      sym (take-append-drop (end - at) (drop at trace)) ∙ ap (λ (rest : List ℕ). piece ++ rest) (drop-drop (end - at) at trace ∙ ap (λ (k : ℕ). drop k trace) there)
-
-  parts : play_from s₀ 0 (triples_of trace) ≡ play_from s (at / 3) (triples_of piece ++ triples_of (drop end trace))
-  parts = w.played ∙ ap (play_from s (at / 3)) (ap triples_of cut ∙ triples_append piece (drop end trace) (omega (arith, piece_length, is, w.whole, pre)))
-
-  count : length (triples_of piece) ≡ (end - at) / 3
-  count = length_triples piece ∙ ap (λ (k : ℕ). k / 3) piece_length
-
-  module _ (r : Part) (reports : Reports s (triples_of piece) r) where
-    pub stops : r.same < (end - at) / 3 → record { state = r.state; verdict = verdict.Differs (at / 3 + r.same) } ≡ play_from s₀ 0 (triples_of trace)
-    stops h = sym (parts ∙ part_off s (at / 3) (triples_of piece) (triples_of (drop end trace)) r reports (λ e. omega (arith, e, count)))
-
-    pub goes : (end - at) / 3 ≤ r.same → Playing trace s₀ r.state end
-    goes h =
-        let all : r.same ≡ length (triples_of piece) = omega (arith, count, reports.0) in
-        let next : at / 3 + length (triples_of piece) ≡ end / 3 = omega (arith, count, is, w.whole) in
-        record {
-          within = omega (arith, is);
-          whole = omega (arith, is, w.whole, pre);
-          valid =
-              subst Valid (ap (λ (p : Played). p.state) (reports.1 0) ∙ by_test (λ (p : Played). p.state ≡ r.state) (eqb r.same (length (triples_of piece))) (λ _. refl) (λ _. refl))
-              (play_keeps Valid turn_valid s 0 (triples_of piece) w.valid);
-          played = parts ∙ part_on s (at / 3) (triples_of piece) (triples_of (drop end trace)) r reports all ∙ ap (λ (k : ℕ). play_from r.state k (triples_of (drop end trace))) next;
-        }
+-- a part that has been played keeps the range
+part_valid : (s : State) (piece : List ℕ) (r : Part) → Valid s → Reports s (triples_of piece) r → Valid r.state
+part_valid s piece r ok reports =
+    subst Valid (ap (λ (p : Played). p.state) (reports.1 0) ∙ by_test (λ (p : Played). p.state ≡ r.state) (eqb r.same (length (triples_of piece))) (λ _. refl) (λ _. refl))
+    (play_keeps Valid turn_valid s 0 (triples_of piece) ok)
 
 -- nothing is left
-pub over : {trace : List ℕ} {s₀ s : State} {at : ℕ} → Playing trace s₀ s at → length trace ≤ at → play_from s₀ 0 (triples_of trace) ≡ record { state = s; verdict = verdict.Agrees }
-unfolding play_from triples_of
-over {trace} {s₀} {s} {at} w l = w.played ∙ rw (drop_of_length-le trace {i = at} l)
+pub over : {trace : List ℕ} {s₀ s : State} {i : ℕ} {rest : List ℕ} → Playing trace s₀ s i rest → length rest ≡ 0
+    → play_from s₀ 0 (triples_of trace) ≡ record { state = s; verdict = Ok verdict.Agrees }
+over {trace} {s₀} {s} {i} {rest} w none = w.played ∙ rw (short rest (omega (arith, none))) (from_none s (4096 * i))
+
+-- the next part, and what its play tells
+module _ {trace : List ℕ} {s₀ s : State} {i : ℕ} {rest : List ℕ} (w : Playing trace s₀ s i rest)
+    (piece next : List ℕ) (parts : rest ≡ piece ++ next) (size : length piece ≡ min 12288 (length rest)) (r : Part) (reports : Reports s (triples_of piece) r) where
+  sum : length rest ≡ length piece + length next
+  sum = ap length parts ∙ length-append piece next
+
+  split : play_from s₀ 0 (triples_of trace) ≡ play_from s (4096 * i) (triples_of piece ++ triples_of next)
+  split = w.played ∙ ap (play_from s (4096 * i)) (ap triples_of parts ∙ triples_append piece next (omega (arith, size, w.whole)))
+
+  pub stops : r.same < length piece / 3 → record { state = r.state; verdict = Ok (verdict.Differs (4096 * i + r.same)) } ≡ play_from s₀ 0 (triples_of trace)
+  stops h = sym (split ∙ part_off s (4096 * i) (triples_of piece) (triples_of next) r reports (λ e. omega (arith, e, length_triples piece)))
+
+  -- where a part is shorter than the others, nothing follows it
+  onward : play_from r.state (4096 * i + length (triples_of piece)) (triples_of next) ≡ play_from r.state (4096 * (i + 1)) (triples_of next)
+  onward = go (ℕ_discrete (length next) 0)
+    where
+      go : Dec (length next ≡ 0) → play_from r.state (4096 * i + length (triples_of piece)) (triples_of next) ≡ play_from r.state (4096 * (i + 1)) (triples_of next)
+      go (yes none) =
+          let nothing = short next (omega (arith, none)) in
+          rw nothing (from_none r.state (4096 * i + length (triples_of piece)) ∙ sym (from_none r.state (4096 * (i + 1))))
+      go (no some) =
+          let long : 4096 * i + length (triples_of piece) ≡ 4096 * (i + 1) = omega (arith, length_triples piece, size, sum, some) in
+          ap (λ (k : ℕ). play_from r.state k (triples_of next)) long
+
+  pub goes : length piece / 3 ≤ r.same → Playing trace s₀ r.state (i + 1) next
+  goes h =
+      let all : r.same ≡ length (triples_of piece) = omega (arith, length_triples piece, reports.0) in
+      record {
+        left = omega (arith, w.left, size, sum);
+        whole = omega (arith, w.whole, size, sum);
+        valid = part_valid s piece r w.valid reports;
+        played = split ∙ part_on s (4096 * i) (triples_of piece) (triples_of next) r reports all ∙ onward;
+      }

@@ -1,5 +1,5 @@
 -- The run of the known tasks of a part, as `play_part` makes it, and what its log tells.
-use mathlib.Core.Path.{◌≡◌, sym, ap, ◌∙◌}
+use mathlib.Core.Path.{◌≡◌, refl, sym, ap, ◌∙◌}
 use mathlib.Core.List.{List}
 use mathlib.Core.Logic.{◌≢◌}
 use Prim.Native.Nat.{ℕ, ◌*◌, ◌≤◌}
@@ -64,3 +64,9 @@ module _ {s : State} {trace : List ℕ} {r : Ran} {log : List ℕ} (w : Runs s t
         → Reports s (triples_of trace) (record { same = k; state = again.state })
     some_same ne part whole again first e wide =
         rw (e ∙ ap (λ (ps : List ℕ). run_of s ps k first) whole) (part_some s trace ok bound first wide k same (λ z. ne (z ∙ sym turns)))
+
+-- the turns made are few, as what the calls told says it
+pub turns_bound : (s : State) (trace : List ℕ) (k : ℕ) (part : List ℕ) (r : Ran) (before : List ℕ) → Valid s → length trace ≤ 12288 → k ≡ length (tasks_in s trace) → part ≡ tasks_in s trace
+    → r ≡ run_of s part k before → 8192 ≤ length before → 3 * r.turns ≤ length trace
+turns_bound s trace k part r before ok bound all whole e wide =
+    turns_few (runs_of s trace k part all whole r (log_after s part k before) before e refl wide) ok bound

@@ -1,8 +1,7 @@
 -- The words of the claims on play-back: what it is for triples to agree, which is the first that does not, and a run woven into triples.
-use Rattle.std.specs.Prelude.{◌≡◌, List, [], ◌∷◌, map, ℕ, ◌<◌, length, take, get_or}
+use Rattle.std.specs.Prelude.{◌≡◌, List, [], ◌∷◌, map, ℕ, ◌<◌, length, take, get_or, Ok}
 use Rattle.machine.specs.declared.State.{State}
 use Rattle.machine.specs.declared.Move.{Move}
-use Rattle.machine.specs.declared.Outcome.TheVariants.{Made}
 use Rattle.machine.specs.Setters.{task_at}
 use Rattle.machine.specs.Turn.{turn_of, move_number}
 use Rattle.runner.specs.Trace.{trace_of}
@@ -12,7 +11,7 @@ use Rattle.playback.specs.Playback.{Triple}
 -- a triple equals what the defined turn of its task does in the state s: "task, line before, 1 moved or 0 waited"
 pub record Performs (s : State) (t : Triple) : Type 0 where
   pub how : Move
-  pub made : (turn_of s t.task).outcome ≡ Made how
+  pub made : (turn_of s t.task).outcome ≡ Ok how
   pub line : t.line ≡ (task_at s t.task).line
   pub told : t.how ≡ move_number how
 

@@ -1,6 +1,6 @@
 -- What 02 asks of play-back (P4), over what a call answers, in the words of `Agreement`: agreement exactly where every triple is what the defined turn does, the state of the run
 -- of the trace's tasks, every run woven into triples, and every cut of a trace that agrees.
-use Rattle.std.specs.Prelude.{◌≡◌, List, [], ◌++◌, map, ◌≢◌, ◌↔◌, ℕ, ◌*◌, ◌≤◌, min, take, drop}
+use Rattle.std.specs.Prelude.{◌≡◌, List, [], ◌++◌, map, ◌≢◌, ◌↔◌, ℕ, ◌*◌, ◌≤◌, min, take, drop, Ok, Err}
 use Rattle.std.proofs.Common.{sym, ap, ◌∙◌, subst, arith, length-take, take-take}
 use Rattle.std.proofs.Math.Decide.{ℕ_discrete}
 use Rattle.std.proofs.Math.ListN.{length}
@@ -20,15 +20,15 @@ use Rattle.playback.specs.Playback.{triples_of, play_from, play_reason, play_of}
 use Rattle.playback.specs.StepsLaws.{length_triples}
 use Rattle.playback.specs.PlaybackLaws.{reason_fresh, reason_trace, play_refused, play_accepted, trace_taken, taken_trace, agrees_exactly, differs_first, agrees_run, cut_does, triples_take, row_task, made_plays, woven_triples, woven_length}
 
--- a verdict other than a refusal is given only where no reason applies
-accepted : (i : Inputs) (trace : List ℕ) → ((k : ℕ) → (play_of i trace).verdict ≢ verdict.Refused k) → play_reason i trace ≡ 0
+-- a verdict is given only where no reason applies
+accepted : (i : Inputs) (trace : List ℕ) → ((k : ℕ) → (play_of i trace).verdict ≢ Err k) → play_reason i trace ≡ 0
 accepted i trace ne = go (ℕ_discrete (play_reason i trace) 0)
   where
     go : Dec (play_reason i trace ≡ 0) → play_reason i trace ≡ 0
     go (yes e) = e
     go (no r) = absurd (ne (play_reason i trace) (ap (λ (p : Played). p.verdict) (play_refused i trace r)))
 
-agreed : (i : Inputs) (trace : List ℕ) → (play_of i trace).verdict ≡ verdict.Agrees → play_reason i trace ≡ 0
+agreed : (i : Inputs) (trace : List ℕ) → (play_of i trace).verdict ≡ Ok verdict.Agrees → play_reason i trace ≡ 0
 agreed i trace e = accepted i trace (λ k r. let z : ◌≡◌ {A = ℕ} 0 1 = cc in omega arith)
 
 -- and then the fresh state is accepted
@@ -42,7 +42,7 @@ fresh_first i trace none = go (ℕ_discrete (fresh_reason i) 0)
 -- "Agreement is reported exactly if every triple equals what the defined turn does": from the state that the triples before lead to, in a call that no
 -- reason refuses
 pub plays_exactly : (i : Inputs) (trace : List ℕ)
-    → ((play_of i trace).verdict ≡ verdict.Agrees) ↔ ((play_reason i trace ≡ 0) × AllDo (fresh_state i) (triples_of trace))
+    → ((play_of i trace).verdict ≡ Ok verdict.Agrees) ↔ ((play_reason i trace ≡ 0) × AllDo (fresh_state i) (triples_of trace))
 plays_exactly i trace = (
   λ e. let none = agreed i trace e in
       (none, (agrees_exactly (fresh_state i) (triples_of trace)).0 (sym (ap (λ (p : Played). p.verdict) (play_accepted i trace none)) ∙ e)),
@@ -50,7 +50,7 @@ plays_exactly i trace = (
 )
 
 -- else "the index, from 0, of the first triple that differs, with the state before it"
-pub plays_first : (i : Inputs) (trace : List ℕ) (k : ℕ) → (play_of i trace).verdict ≡ verdict.Differs k
+pub plays_first : (i : Inputs) (trace : List ℕ) (k : ℕ) → (play_of i trace).verdict ≡ Ok (verdict.Differs k)
     → FirstAt (fresh_state i) (triples_of trace) k (play_of i trace).state
 plays_first i trace k e =
     let none = accepted i trace (λ j r. let z : ◌≡◌ {A = ℕ} 0 1 = cc in omega arith) in
@@ -59,7 +59,7 @@ plays_first i trace k e =
     (differs_first (fresh_state i) (triples_of trace) k (sym (ap (λ (p : Played). p.verdict) is) ∙ e))
 
 -- the state of a trace that agrees is that of the run of its tasks, which makes every turn; the run's log has room for them
-pub plays_run : (i : Inputs) (trace log : List ℕ) → 2 * length (triples_of trace) ≤ length log → (play_of i trace).verdict ≡ verdict.Agrees
+pub plays_run : (i : Inputs) (trace log : List ℕ) → 2 * length (triples_of trace) ≤ length log → (play_of i trace).verdict ≡ Ok verdict.Agrees
     → (let r = run_of (fresh_state i) (tasks_of (triples_of trace)) (length (triples_of trace)) log in
     (r.state ≡ (play_of i trace).state) × ((r.ending ≡ Done) × (r.turns ≡ length (triples_of trace))))
 plays_run i trace log wide e =
@@ -70,7 +70,7 @@ plays_run i trace log wide e =
     (r.0 ∙ sym (ap (λ (p : Played). p.state) (play_accepted i trace w.0)), r.1)
 
 -- a trace that agrees, cut anywhere at a triple, agrees
-pub cut_plays : (i : Inputs) (trace : List ℕ) (k : ℕ) → (play_of i trace).verdict ≡ verdict.Agrees → (play_of i (take (3 * k) trace)).verdict ≡ verdict.Agrees
+pub cut_plays : (i : Inputs) (trace : List ℕ) (k : ℕ) → (play_of i trace).verdict ≡ Ok verdict.Agrees → (play_of i (take (3 * k) trace)).verdict ≡ Ok verdict.Agrees
 cut_plays i trace k e =
     let w = (plays_exactly i trace).0 e in
     let fresh = fresh_first i trace w.0 in
@@ -102,11 +102,11 @@ module _ (s : State) (schedule : List ℕ) (allowance : ℕ) (log : List ℕ) wh
   woven_none ne = rw (run_refuses s schedule allowance log ne)
 
   -- every run from every state, refused or not, is agreed with, and its state is the play-back's
-  pub run_agrees : play_from s 0 (triples_of (woven_run s schedule allowance log)) ≡ record { state = (run_of s schedule allowance log).state; verdict = verdict.Agrees }
+  pub run_agrees : play_from s 0 (triples_of (woven_run s schedule allowance log)) ≡ record { state = (run_of s schedule allowance log).state; verdict = Ok verdict.Agrees }
   unfolding triples_of play_from
   run_agrees = go (ℕ_discrete reason 0)
     where
-      go : Dec (reason ≡ 0) → play_from s 0 (triples_of (woven_run s schedule allowance log)) ≡ record { state = (run_of s schedule allowance log).state; verdict = verdict.Agrees }
+      go : Dec (reason ≡ 0) → play_from s 0 (triples_of (woven_run s schedule allowance log)) ≡ record { state = (run_of s schedule allowance log).state; verdict = Ok verdict.Agrees }
       go (yes e) =
           rw (woven_rows e, woven_triples rows (drop (2 * length rows) log), run_accepts s schedule allowance log e) (made_plays s 0 (take allowance schedule))
       go (no ne) = rw (woven_none ne, run_refuses s schedule allowance log ne)
@@ -121,7 +121,7 @@ module _ (s : State) (schedule : List ℕ) (allowance : ℕ) (log : List ℕ) wh
 -- so a run from a fresh state is always agreed with, where its triples are not too many bytes
 pub run_plays : (i : Inputs) (schedule : List ℕ) (allowance : ℕ) (log : List ℕ) → fresh_reason i ≡ 0
     → (let r = run_of (fresh_state i) schedule allowance log in
-    3 * r.turns ≤ max_turns → play_of i (woven_run (fresh_state i) schedule allowance log) ≡ record { state = r.state; verdict = verdict.Agrees })
+    3 * r.turns ≤ max_turns → play_of i (woven_run (fresh_state i) schedule allowance log) ≡ record { state = r.state; verdict = Ok verdict.Agrees })
 run_plays i schedule allowance log fresh few =
     let s = fresh_state i in
     let bytes = woven_bytes s schedule allowance log in

@@ -1,10 +1,9 @@
 -- Pins: what the words of `Agreement` say, a second time and without them, triple by triple over `turn_of` and `task_at`. Where a word is changed so that a claim on
 -- play-back would say less, these no longer follow.
-use Rattle.std.specs.Prelude.{◌≡◌, refl, List, [], ◌∷◌, ℕ, suc, take}
+use Rattle.std.specs.Prelude.{◌≡◌, refl, List, [], ◌∷◌, ℕ, suc, take, Ok}
 use Rattle.std.proofs.Common.{sym, ◌∙◌, subst, arith}
 use Rattle.machine.specs.declared.State.{State}
 use Rattle.machine.specs.declared.Move.{Move}
-use Rattle.machine.specs.declared.Outcome.TheVariants.{Made}
 use Rattle.machine.specs.Setters.{task_at}
 use Rattle.machine.specs.Turn.{turn_of, move_number}
 use Rattle.playback.specs.Playback.{Triple}
@@ -13,7 +12,7 @@ use Rattle.playback.specs.PlaybackLaws.{led_on, led_none, first_does, rest_do, a
 
 -- the turn of the task is made, the line is the task's before it, and the number 1 if it moved or 0 if it waited
 abbrev Told : State → Triple → Type 0
-Told s t = (how : Move) × ((turn_of s t.task).outcome ≡ Made how) × (t.line ≡ (task_at s t.task).line) × (t.how ≡ move_number how)
+Told s t = (how : Move) × ((turn_of s t.task).outcome ≡ Ok how) × (t.line ≡ (task_at s t.task).line) × (t.how ≡ move_number how)
 
 told : {s : State} {t : Triple} → Performs s t → Told s t
 told d = (d.how, d.made, d.line, d.told)

@@ -1,5 +1,5 @@
 -- Laws of play-back: of its reasons, of the triples that agree and the first that does not, of the run of their tasks, of cuts, and of runs woven into triples.
-use Rattle.std.specs.Prelude.{◌≡◌, refl, true, false, List, [], ◌∷◌, ◌++◌, map, ◌≢◌, ◌↔◌, ℕ, zero, suc, ◌+◌, ◌*◌, ◌%◌, ◌≤◌, ◌<◌, min, eqb, leb, length, take}
+use Rattle.std.specs.Prelude.{◌≡◌, refl, true, false, List, [], ◌∷◌, ◌++◌, map, ◌≢◌, ◌↔◌, ℕ, zero, suc, ◌+◌, ◌*◌, ◌%◌, ◌≤◌, ◌<◌, min, eqb, leb, length, take, Ok, Err}
 use Rattle.std.proofs.Common.{sym, ap, ◌∙◌, subst, true≢false, arith, length-take, take_all, take-take, get_or-take, eq-eqb, ne_eqb, le-leb, le-ltb, leb-true, eqb-true}
 use Rattle.std.proofs.Math.Bool.{and-eq-true_iff}
 use Rattle.std.proofs.Math.Decide.{ℕ_discrete}
@@ -10,8 +10,7 @@ use Rattle.bitset.specs.ChoiceLaws.{by_test}
 use Rattle.schedule.specs.Passes.{max_turns, all_tasks}
 use Rattle.schedule.specs.PassesLaws.{all_known}
 use Rattle.machine.specs.declared.State.{State}
-use Rattle.machine.specs.declared.Outcome.{Outcome}
-use Rattle.machine.specs.declared.Outcome.TheVariants.{Made, Refused}
+use Rattle.machine.specs.Answers.{Outcome}
 use Rattle.machine.specs.Setters.{task_at}
 use Rattle.machine.specs.Fresh.{Inputs, fresh_reason, fresh_state}
 use Rattle.machine.specs.Range.{Valid}
@@ -25,7 +24,7 @@ use Rattle.runner.specs.RunLaws.{run_accepts, run_unrefused, log_row}
 use Rattle.playback.specs.declared.Verdict.TheVariants as verdict
 use Rattle.playback.specs.declared.Played.{Played}
 use Rattle.playback.specs.Agreement.{Performs, tasks_of, led_to, triple_in, AllDo, FirstAt, woven}
-use Rattle.playback.specs.Playback.{Triple, triples_of, equals, does, play_from, trace_reason, play_reason, refused_play, play_of, verdict_reason}
+use Rattle.playback.specs.Playback.{Triple, Report, triples_of, equals, does, play_from, trace_reason, play_reason, refused_play, play_of, verdict_reason}
 
 -- ---- the reasons
 
@@ -47,7 +46,7 @@ module _ (i : Inputs) (trace : List ℕ) where
   unfolding play_of
   play_accepted e = rw (eq-eqb (play_reason i trace) 0 e)
 
--- a verdict that tells no reason is not refused
+-- a play-back of which no reason is told is not refused
 pub play_unrefused : (i : Inputs) (trace : List ℕ) → verdict_reason (play_of i trace).verdict ≡ 0 → play_reason i trace ≡ 0
 play_unrefused i trace e = go (ℕ_discrete (play_reason i trace) 0)
   where
@@ -56,12 +55,12 @@ play_unrefused i trace e = go (ℕ_discrete (play_reason i trace) 0)
     go (no ne) = absurd (ne (sym (ap (λ (p : Played). verdict_reason p.verdict) (play_refused i trace ne)) ∙ e))
 
 -- no triple, and one more
-pub from_none : (s : State) (i : ℕ) → play_from s i [] ≡ record { state = s; verdict = verdict.Agrees }
+pub from_none : (s : State) (i : ℕ) → play_from s i [] ≡ record { state = s; verdict = Ok verdict.Agrees }
 unfolding play_from
 from_none s i = refl
 
 pub from_triple : (s : State) (i : ℕ) (t : Triple) (ts : List Triple)
-    → play_from s i (t ∷ ts) ≡ pick (does s t) (play_from (turn_of s t.task).state (suc i) ts) (record { state = s; verdict = verdict.Differs i })
+    → play_from s i (t ∷ ts) ≡ pick (does s t) (play_from (turn_of s t.task).state (suc i) ts) (record { state = s; verdict = Ok (verdict.Differs i) })
 unfolding play_from
 from_triple s i t ts = refl
 
@@ -92,10 +91,10 @@ does_true : (s : State) (t : Triple) → does s t ≡ true → Performs s t
 does_true s t = go (turn_of s t.task).outcome refl
   where
     go : (o : Outcome) → (turn_of s t.task).outcome ≡ o → equals s t o ≡ true → Performs s t
-    go (Made how) e b =
+    go (Ok how) e b =
         let both = (and-eq-true_iff (eqb t.line (task_at s t.task).line) (eqb t.how (move_number how))).0 b in
         record { how = how; made = e; line = eqb-true t.line (task_at s t.task).line both.0; told = eqb-true t.how (move_number how) both.1 }
-    go (Refused k) e b = absurd (true≢false (sym b))
+    go (Err k) e b = absurd (true≢false (sym b))
 
 true_does : (s : State) (t : Triple) → Performs s t → does s t ≡ true
 true_does s t d = rw (d.made, eq-eqb t.line (task_at s t.task).line d.line, eq-eqb t.how (move_number d.how) d.told)
@@ -107,7 +106,7 @@ unknown_differs s t h d = omega (arith, (turn_makes s t.task d.how d.made).known
 pub outcome_differs : (s : State) (t : Triple) → 1 < t.how → Performs s t → ⊥
 outcome_differs s t h d = omega (arith, d.told, move_le d.how)
 
-pub refused_differs : (s : State) (t : Triple) (k : ℕ) → (turn_of s t.task).outcome ≡ Refused k → Performs s t → ⊥
+pub refused_differs : (s : State) (t : Triple) (k : ℕ) → (turn_of s t.task).outcome ≡ Err k → Performs s t → ⊥
 refused_differs s t k e d = let made = d.made in let z : ◌≡◌ {A = ℕ} 0 1 = cc in omega arith
 
 -- past a triple that does, the others lead on from the state after its turn
@@ -131,23 +130,23 @@ module _ (s : State) (t : Triple) (ts : List Triple) where
   all_do d more (suc i) l = subst (λ (x : State). Performs x (triple_in ts i)) (sym (led_on s t ts i d)) (more i (omega arith))
 
 -- to differ is not to agree
-differs_agrees : (i : ℕ) → verdict.Differs i ≡ verdict.Agrees → ⊥
+differs_agrees : (i : ℕ) → ◌≡◌ {A = Report} (Ok (verdict.Differs i)) (Ok verdict.Agrees) → ⊥
 differs_agrees i e = let z : ◌≡◌ {A = ℕ} 0 1 = cc in omega arith
 
-agrees_all : (s : State) (i : ℕ) (ts : List Triple) → (play_from s i ts).verdict ≡ verdict.Agrees → AllDo s ts
+agrees_all : (s : State) (i : ℕ) (ts : List Triple) → (play_from s i ts).verdict ≡ Ok verdict.Agrees → AllDo s ts
 unfolding play_from
 agrees_all s i [] e = λ j l. absurd (omega arith)
 agrees_all s i (t ∷ ts) e =
-    by_test (λ (p : Played). p.verdict ≡ verdict.Agrees → AllDo s (t ∷ ts)) (does s t)
+    by_test (λ (p : Played). p.verdict ≡ Ok verdict.Agrees → AllDo s (t ∷ ts)) (does s t)
     (λ d more. all_do s t ts (does_true s t d) (agrees_all (turn_of s t.task).state _ ts more)) (λ _ z. absurd (differs_agrees i z)) e
 
-all_agrees : (s : State) (i : ℕ) (ts : List Triple) → AllDo s ts → (play_from s i ts).verdict ≡ verdict.Agrees
+all_agrees : (s : State) (i : ℕ) (ts : List Triple) → AllDo s ts → (play_from s i ts).verdict ≡ Ok verdict.Agrees
 unfolding play_from
 all_agrees s i [] all = refl
 all_agrees s i (t ∷ ts) all = rw (true_does s t (first_does s t ts all)) (all_agrees (turn_of s t.task).state _ ts (rest_do s t ts all))
 
 -- 02: "Agreement is reported exactly if every triple equals what the defined turn does"
-pub agrees_exactly : (s : State) (ts : List Triple) → ((play_from s 0 ts).verdict ≡ verdict.Agrees) ↔ AllDo s ts
+pub agrees_exactly : (s : State) (ts : List Triple) → ((play_from s 0 ts).verdict ≡ Ok verdict.Agrees) ↔ AllDo s ts
 agrees_exactly s ts = (agrees_all s 0 ts, all_agrees s 0 ts)
 
 -- the state is then that of the triples' tasks, and no turn of theirs is refused
@@ -172,17 +171,17 @@ first_later s t ts k end d f =
       state = f.state ∙ sym (led_on s t ts k d);
     }
 
-differs_from : (s : State) (i : ℕ) (ts : List Triple) (k : ℕ) → (play_from s i ts).verdict ≡ verdict.Differs k → (j : ℕ) × ((k ≡ i + j) × FirstAt s ts j (play_from s i ts).state)
+differs_from : (s : State) (i : ℕ) (ts : List Triple) (k : ℕ) → (play_from s i ts).verdict ≡ Ok (verdict.Differs k) → (j : ℕ) × ((k ≡ i + j) × FirstAt s ts j (play_from s i ts).state)
 unfolding play_from
 differs_from s i [] k e = absurd (differs_agrees k (sym e))
 differs_from s i (t ∷ ts) k e =
-    by_test (λ (p : Played). p.verdict ≡ verdict.Differs k → (j : ℕ) × ((k ≡ i + j) × FirstAt s (t ∷ ts) j p.state)) (does s t)
+    by_test (λ (p : Played). p.verdict ≡ Ok (verdict.Differs k) → (j : ℕ) × ((k ≡ i + j) × FirstAt s (t ∷ ts) j p.state)) (does s t)
     (λ d more. later _ d (differs_from (turn_of s t.task).state _ ts k more)) here e
   where
     later : (end : State) → does s t ≡ true → (j : ℕ) × ((k ≡ suc i + j) × FirstAt (turn_of s t.task).state ts j end) → (j : ℕ) × ((k ≡ i + j) × FirstAt s (t ∷ ts) j end)
     later end d w = (suc w.0, (omega (arith, w.1.0), first_later s t ts w.0 end (does_true s t d) w.1.1))
 
-    here : does s t ≡ false → verdict.Differs i ≡ verdict.Differs k → (j : ℕ) × ((k ≡ i + j) × FirstAt s (t ∷ ts) j s)
+    here : does s t ≡ false → ◌≡◌ {A = Report} (Ok (verdict.Differs i)) (Ok (verdict.Differs k)) → (j : ℕ) × ((k ≡ i + j) × FirstAt s (t ∷ ts) j s)
     here other e =
         let same : i ≡ k = cc in (
           0,
@@ -198,7 +197,7 @@ differs_from s i (t ∷ ts) k e =
         )
 
 -- 02: "the index, from 0, of the first triple that differs, with the state before it"
-pub differs_first : (s : State) (ts : List Triple) (k : ℕ) → (play_from s 0 ts).verdict ≡ verdict.Differs k → FirstAt s ts k (play_from s 0 ts).state
+pub differs_first : (s : State) (ts : List Triple) (k : ℕ) → (play_from s 0 ts).verdict ≡ Ok (verdict.Differs k) → FirstAt s ts k (play_from s 0 ts).state
 differs_first s ts k e =
     let w = differs_from s 0 ts k e in
     let same : w.0 ≡ k = omega (arith, w.1.0) in
@@ -271,7 +270,7 @@ row_triple r = record { task = r.task; line = r.line; how = move_number r.how }
 abbrev pub row_task : Row → ℕ
 row_task r = r.task
 
-pub made_plays : (s : State) (i : ℕ) (ts : List ℕ) → play_from s i (map row_triple (trace_of s ts).made) ≡ record { state = (trace_of s ts).state; verdict = verdict.Agrees }
+pub made_plays : (s : State) (i : ℕ) (ts : List ℕ) → play_from s i (map row_triple (trace_of s ts).made) ≡ record { state = (trace_of s ts).state; verdict = Ok verdict.Agrees }
 unfolding play_from
 made_plays s i [] = rw (trace_none s)
 made_plays s i (p ∷ ts) = rw (trace_turn s p ts) (go (turn_of s p).outcome refl (made_plays (turn_of s p).state (suc i) ts))
@@ -279,12 +278,12 @@ made_plays s i (p ∷ ts) = rw (trace_turn s p ts) (go (turn_of s p).outcome ref
     rest : Trace
     rest = trace_of (turn_of s p).state ts
 
-    go : (o : Outcome) → (turn_of s p).outcome ≡ o → play_from (turn_of s p).state (suc i) (map row_triple rest.made) ≡ record { state = rest.state; verdict = verdict.Agrees }
-        → play_from s i (map row_triple (turned s p o rest).made) ≡ record { state = (turned s p o rest).state; verdict = verdict.Agrees }
-    go (Made how) e ih =
+    go : (o : Outcome) → (turn_of s p).outcome ≡ o → play_from (turn_of s p).state (suc i) (map row_triple rest.made) ≡ record { state = rest.state; verdict = Ok verdict.Agrees }
+        → play_from s i (map row_triple (turned s p o rest).made) ≡ record { state = (turned s p o rest).state; verdict = Ok verdict.Agrees }
+    go (Ok how) e ih =
         let row : Triple = row_triple (record { task = p; line = (task_at s p).line; how = how }) in
         rw (true_does s row (record { how = how; made = e; line = refl; told = refl })) ih
-    go (Refused k) e ih = refl
+    go (Err k) e ih = refl
 
 pub woven_triples : (rows : List Row) (more : List ℕ) → triples_of (woven (map row_task rows) (log_of rows ++ more)) ≡ map row_triple rows
 unfolding woven triples_of

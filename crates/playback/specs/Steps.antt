@@ -1,5 +1,5 @@
 -- What the steps of a play-back leave: the tasks that can be run, how many triples the log of their run has, and what a part tells.
-use Rattle.std.specs.Prelude.{◌≡◌, ◌&&◌, List, [], ◌∷◌, ℕ, suc, ◌+◌, ◌≤◌, eqb, ltb, length}
+use Rattle.std.specs.Prelude.{◌≡◌, ◌&&◌, List, [], ◌∷◌, ℕ, suc, ◌+◌, ◌≤◌, eqb, ltb, length, Ok}
 use Rattle.bitset.specs.Choice.{pick}
 use Rattle.machine.specs.declared.State.{State}
 use Rattle.playback.specs.declared.Verdict.TheVariants as verdict
@@ -26,7 +26,7 @@ same_in (t ∷ ts) (line ∷ how ∷ log) =
 -- what a part tells of its triples, the first of which has the index i: it agrees where all are the same, else the first that is not differs
 abbrev pub part_play : ℕ → ℕ → Part → Played
 part_play i count r =
-    pick (eqb r.same count) (record { state = r.state; verdict = verdict.Agrees }) (record { state = r.state; verdict = verdict.Differs (i + r.same) })
+    pick (eqb r.same count) (record { state = r.state; verdict = Ok verdict.Agrees }) (record { state = r.state; verdict = Ok (verdict.Differs (i + r.same)) })
 
 -- the part r reports the triples ts, played from the state s
 abbrev pub Reports : State → List Triple → Part → Type 0

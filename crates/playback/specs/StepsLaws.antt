@@ -1,20 +1,19 @@
 -- Laws of the steps of a play-back: it is what the run of the known tasks and its log tell.
-use Rattle.std.specs.Prelude.{◌≡◌, Bool, ◌&&◌, List, [], ◌∷◌, ◌++◌, ◌≢◌, eqb, ltb, length, take, drop, get_or}
+use Rattle.std.specs.Prelude.{◌≡◌, Bool, ◌&&◌, List, [], ◌∷◌, ◌++◌, ◌≢◌, eqb, ltb, length, take, drop, get_or, Ok, Err}
 use Rattle.std.proofs.Math.Path.{refl}
-use Rattle.std.proofs.Common.{sym, ap, ◌∙◌, add-zero, length-drop, take_at}
+use Rattle.std.proofs.Common.{sym, ap, ◌∙◌, add-zero, take_at, drop-cons, length-drop}
 use Rattle.std.proofs.Math.Bool.{true, false}
 use Prim.Native.Nat.{ℕ, zero, suc, ◌+◌, ◌*◌, ◌/◌, ◌%◌, ◌≤◌, ◌<◌}
 use native.Mathlib.Omega.{arith}
 use Rattle.std.proofs.Math.Dec.{eqb-suc-suc, eqb-zero-suc}
-use Rattle.std.proofs.Math.Seq.{drop-cons, take-length}
+use Rattle.std.proofs.Math.Seq.{take-length}
 use borrow.Author.Tests.{ltb-true, ltb-false, lt-ltb, le-ltb, eq-eqb, ne_eqb}
 use Rattle.bitset.specs.Choice.{pick}
 use Rattle.bitset.specs.ChoiceLaws.{by_test}
 use Rattle.schedule.specs.Passes.{all_tasks}
 use Rattle.schedule.specs.PassesLaws.{all_known}
 use Rattle.machine.specs.declared.State.{State}
-use Rattle.machine.specs.declared.Outcome.{Outcome}
-use Rattle.machine.specs.declared.Outcome.TheVariants.{Made, Refused}
+use Rattle.machine.specs.Answers.{Outcome}
 use Rattle.machine.specs.Setters.{task_at}
 use Rattle.machine.specs.Range.{Valid}
 use Rattle.machine.specs.Turn.{turn_of, move_number}
@@ -24,11 +23,10 @@ use Rattle.runner.specs.Trace.{turned, trace_of}
 use Rattle.runner.specs.TraceLaws.{trace_none, trace_turn, trace_stays, made_few}
 use Rattle.runner.specs.Run.{log_of, run_reason, run_of, log_after}
 use Rattle.runner.specs.RunLaws.{length_log, run_accepts, run_unrefused, log_none, log_row, log_accepts}
-use Rattle.playback.specs.declared.Verdict.{Verdict}
 use Rattle.playback.specs.declared.Verdict.TheVariants as verdict
 use Rattle.playback.specs.declared.Played.{Played}
 use Rattle.playback.specs.declared.Part.{Part}
-use Rattle.playback.specs.Playback.{Triple, triples_of, equals, does, play_from}
+use Rattle.playback.specs.Playback.{Report, Triple, triples_of, equals, does, play_from}
 use Rattle.playback.specs.Steps.{known_in, same_in, Reports}
 
 -- ---- the report by a run
@@ -37,8 +35,8 @@ use Rattle.playback.specs.Steps.{known_in, same_in, Reports}
 abbrev pub by_run : State → ℕ → ℕ → List ℕ → ℕ → Played
 by_run s i count ps k =
     pick (eqb k count)
-    (record { state = (trace_of s ps).state; verdict = verdict.Agrees })
-    (record { state = (trace_of s (take k ps)).state; verdict = verdict.Differs (i + k) })
+    (record { state = (trace_of s ps).state; verdict = Ok verdict.Agrees })
+    (record { state = (trace_of s (take k ps)).state; verdict = Ok (verdict.Differs (i + k)) })
 
 pub play_runs : (s : State) (i : ℕ) (ts : List Triple) → Valid s
     → play_from s i ts ≡ by_run s i (length ts) (known_in s.n ts) (same_in ts (log_of (trace_of s (known_in s.n ts)).made))
@@ -54,7 +52,7 @@ play_runs s i (t ∷ ts) ok =
     rest = known_in s.n ts
 
     differs : Played
-    differs = record { state = s; verdict = verdict.Differs i }
+    differs = record { state = s; verdict = Ok (verdict.Differs i) }
 
     -- the same of the triples after the first
     Later : Type 0
@@ -67,8 +65,8 @@ play_runs s i (t ∷ ts) ok =
     by_outcome : Later → (o : Outcome) → (turn_of s t.task).outcome ≡ o
         → pick (equals s t o) (play_from next (suc i) ts) differs
         ≡ by_run s i (suc (length ts)) (t.task ∷ rest) (same_in (t ∷ ts) (log_of (turned s t.task o (trace_of next rest)).made))
-    by_outcome later (Refused k) e = rw log_none (none (t.task ∷ rest))
-    by_outcome later (Made how) e =
+    by_outcome later (Err k) e = rw log_none (none (t.task ∷ rest))
+    by_outcome later (Ok how) e =
         rw (log_row (record { task = t.task; line = (task_at s t.task).line; how = how }) (trace_of next rest).made)
         (by_bytes (eqb t.line (task_at s t.task).line && eqb t.how (move_number how)))
       where
@@ -116,8 +114,17 @@ known_tasks n ts = (all_known n (known_in n ts)).1 (known_below n ts)
 
 -- ---- the triples one by one
 
--- fewer than three bytes are no triple
-short : (bs : List ℕ) → length bs < 3 → triples_of bs ≡ []
+-- three bytes in front of others are a triple, and fewer than three are none
+pub triples_split : (x rest : List ℕ) → length x ≡ 3
+    → triples_of (x ++ rest) ≡ record { task = get_or x 0 0; line = get_or x 1 0; how = get_or x 2 0 } ∷ triples_of rest
+unfolding triples_of
+triples_split [] rest h = absurd (omega arith)
+triples_split (a ∷ []) rest h = absurd (omega arith)
+triples_split (a ∷ b ∷ []) rest h = absurd (omega arith)
+triples_split (a ∷ b ∷ c ∷ []) rest h = refl
+triples_split (a ∷ b ∷ c ∷ d ∷ x) rest h = absurd (omega arith)
+
+pub short : (bs : List ℕ) → length bs < 3 → triples_of bs ≡ []
 unfolding triples_of
 short [] h = refl
 short (a ∷ []) h = refl
@@ -139,6 +146,13 @@ module _ (trace : List ℕ) (i : ℕ) where
 
   pub triples_done : length trace ≤ 3 * i + 2 → triples_of (drop (3 * i) trace) ≡ []
   triples_done l = short (drop (3 * i) trace) (omega (arith, length-drop (3 * i) trace))
+
+-- two bytes in front of others, by their places
+pub row_next : (row after : List ℕ) → length row ≡ 2 → row ++ after ≡ get_or row 0 0 ∷ get_or row 1 0 ∷ after
+row_next [] after h = absurd (omega arith)
+row_next (a ∷ []) after h = absurd (omega arith)
+row_next (a ∷ b ∷ []) after h = refl
+row_next (a ∷ b ∷ c ∷ row) after h = absurd (omega arith)
 
 pub length_triples : (trace : List ℕ) → length (triples_of trace) ≡ length trace / 3
 unfolding triples_of
@@ -246,10 +260,10 @@ module _ (s : State) (trace : List ℕ) (ok : Valid s) (few : length trace ≤ 1
 -- ---- part after part
 
 -- what is reported of triples and then of those after them, which are asked only where the first agree
-abbrev onward : Verdict → State → ℕ → List Triple → Played
-onward verdict.Agrees s i us = play_from s i us
-onward (verdict.Differs k) s i us = record { state = s; verdict = verdict.Differs k }
-onward (verdict.Refused k) s i us = record { state = s; verdict = verdict.Refused k }
+abbrev onward : Report → State → ℕ → List Triple → Played
+onward (Ok verdict.Agrees) s i us = play_from s i us
+onward (Ok (verdict.Differs k)) s i us = record { state = s; verdict = Ok (verdict.Differs k) }
+onward (Err k) s i us = record { state = s; verdict = Err k }
 
 play_append : (s : State) (i : ℕ) (ts us : List Triple) → play_from s i (ts ++ us) ≡ onward (play_from s i ts).verdict (play_from s i ts).state (i + length ts) us
 unfolding play_from
@@ -260,7 +274,7 @@ play_append s i (t ∷ ts) us = go (does s t) (play_append (turn_of s t.task).st
     rest vs = play_from (turn_of s t.task).state (suc i) vs
 
     differs : Played
-    differs = record { state = s; verdict = verdict.Differs i }
+    differs = record { state = s; verdict = Ok (verdict.Differs i) }
 
     go : (b : Bool) → rest (ts ++ us) ≡ onward (rest ts).verdict (rest ts).state (suc i + length ts) us
         → pick b (rest (ts ++ us)) differs ≡ onward (pick b (rest ts) differs).verdict (pick b (rest ts) differs).state (i + suc (length ts)) us
@@ -270,12 +284,12 @@ play_append s i (t ∷ ts) us = go (does s t) (play_append (turn_of s t.task).st
 module _ (s : State) (i : ℕ) (ts us : List Triple) (r : Part) (reports : Reports s ts r) where
   pub part_on : r.same ≡ length ts → play_from s i (ts ++ us) ≡ play_from r.state (i + length ts) us
   part_on all =
-      let is : play_from s i ts ≡ record { state = r.state; verdict = verdict.Agrees } = reports.1 i ∙ rw (eq-eqb r.same (length ts) all) in
+      let is : play_from s i ts ≡ record { state = r.state; verdict = Ok verdict.Agrees } = reports.1 i ∙ rw (eq-eqb r.same (length ts) all) in
       play_append s i ts us ∙ ap (λ (p : Played). onward p.verdict p.state (i + length ts) us) is
 
-  pub part_off : r.same ≢ length ts → play_from s i (ts ++ us) ≡ record { state = r.state; verdict = verdict.Differs (i + r.same) }
+  pub part_off : r.same ≢ length ts → play_from s i (ts ++ us) ≡ record { state = r.state; verdict = Ok (verdict.Differs (i + r.same)) }
   part_off ne =
-      let is : play_from s i ts ≡ record { state = r.state; verdict = verdict.Differs (i + r.same) } = reports.1 i ∙ rw (ne_eqb r.same (length ts) ne) in
+      let is : play_from s i ts ≡ record { state = r.state; verdict = Ok (verdict.Differs (i + r.same)) } = reports.1 i ∙ rw (ne_eqb r.same (length ts) ne) in
       play_append s i ts us ∙ ap (λ (p : Played). onward p.verdict p.state (i + length ts) us) is
 
 -- the triples of a trace that is cut at a triple

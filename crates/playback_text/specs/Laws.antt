@@ -1,5 +1,5 @@
 -- Laws of play-back from a setup text: what its numbers say, that their bytes say the same, and that what is printed fits.
-use Rattle.std.specs.Prelude.{◌≡◌, refl, true, false, List, [], ◌∷◌, ℕ, ◌+◌, ◌*◌, ◌≤◌, ◌<◌, leb, length, drop, get_or}
+use Rattle.std.specs.Prelude.{◌≡◌, refl, true, false, List, [], ◌∷◌, ℕ, ◌+◌, ◌*◌, ◌≤◌, ◌<◌, leb, length, drop, get_or, Ok, Err}
 use Rattle.std.proofs.Common.{sym, ap, ◌∙◌, arith, length-append, le-leb, le-ltb}
 use Rattle.std.proofs.Math.Bool.{and-false}
 use Rattle.std.proofs.Math.Option.{Option, none, some}
@@ -12,22 +12,20 @@ use Rattle.text.specs.DecimalLaws.{decimal_most}
 use Rattle.setup.specs.Tables.{is_work}
 use Rattle.setup.specs.TablesLaws.{within}
 use Rattle.machine.specs.declared.State.{State}
-use Rattle.machine.specs.declared.Outcome.{Outcome}
-use Rattle.machine.specs.declared.Outcome.TheVariants as outcome
+use Rattle.machine.specs.Answers.{Outcome}
 use Rattle.machine.specs.Setters.{task_at}
 use Rattle.machine.specs.Fresh.{Inputs, fresh_reason}
 use Rattle.machine.specs.FreshLaws.{with_entries, entries_reason, entries_same, with_works, works_reason_lem, works_same}
 use Rattle.machine.specs.Turn.{turn_of, move_number}
-use Rattle.playback.specs.declared.Verdict.{Verdict}
 use Rattle.playback.specs.declared.Verdict.TheVariants as verdict
 use Rattle.playback.specs.declared.Played.{Played}
-use Rattle.playback.specs.Playback.{refused_play, play_of}
+use Rattle.playback.specs.Playback.{Report, refused_play, play_of}
 use Rattle.playback.specs.PlaybackLaws.{reason_fresh, play_refused}
 use Rattle.playback.specs.StepsLaws.{length_triples}
 use Rattle.playback.specs.Claims.{plays_first}
 use Rattle.playback_text.specs.Setup.{inputs_in, setup_in}
 use Rattle.playback_text.specs.Steps.{length_byte, Within}
-use Rattle.playback_text.specs.Answer.{play_in, differs_word, counted_line, verdict_line, turn_line, told_line, lines_of}
+use Rattle.playback_text.specs.Answer.{play_in, differs_word, counted_line, verdict_line, turn_line, told_line, lines_of, printed_of}
 
 -- ---- the numbers of a setup
 
@@ -85,27 +83,32 @@ byte_play i trace =
 counted_length : (word : List ℕ) (x : ℕ) → length (counted_line word x) ≤ length word + 22
 counted_length word x = simp length-append (omega (arith, decimal_most 20 x))
 
-verdict_length : (v : Verdict) → length (verdict_line v) ≤ 29
-verdict_length verdict.Agrees = omega arith
-verdict_length (verdict.Differs i) = counted_length differs_word i
-verdict_length (verdict.Refused k) = counted_length refused_word k
+verdict_length : (v : Report) → length (verdict_line v) ≤ 29
+verdict_length (Ok verdict.Agrees) = omega arith
+verdict_length (Ok (verdict.Differs i)) = counted_length differs_word i
+verdict_length (Err k) = counted_length refused_word k
 
 turn_length : (s : State) (p : ℕ) (o : Outcome) → length (turn_line s p o) ≤ 63
-turn_length s p (outcome.Made how) =
+turn_length s p (Ok how) =
     simp length-append (omega (arith, decimal_most 20 p, decimal_most 20 (task_at s p).line, decimal_most 20 (move_number how)))
-turn_length s p (outcome.Refused k) = simp length-append (omega (arith, decimal_most 20 p, decimal_most 20 k))
+turn_length s p (Err k) = simp length-append (omega (arith, decimal_most 20 p, decimal_most 20 k))
 
-told_length : (v : Verdict) (s : State) (trace : List ℕ) → length (told_line v s trace) ≤ 63
-told_length verdict.Agrees s trace = omega arith
-told_length (verdict.Differs i) s trace = turn_length s (get_or trace (3 * i) 0) (turn_of s (get_or trace (3 * i) 0)).outcome
-told_length (verdict.Refused k) s trace = omega arith
+told_length : (v : Report) (s : State) (trace : List ℕ) → length (told_line v s trace) ≤ 63
+told_length (Ok verdict.Agrees) s trace = omega arith
+told_length (Ok (verdict.Differs i)) s trace = turn_length s (get_or trace (3 * i) 0) (turn_of s (get_or trace (3 * i) 0)).outcome
+told_length (Err k) s trace = omega arith
 
-pub verdict_fits : (v : Verdict) → length (verdict_line v) ≤ 128
+pub verdict_fits : (v : Report) → length (verdict_line v) ≤ 128
 verdict_fits v = omega (arith, verdict_length v)
 
 pub lines_fit : (p : Played) (trace : List ℕ) → length (lines_of p trace) ≤ 128
 unfolding lines_of
 lines_fit p trace = rw length-append (omega (arith, verdict_length p.verdict, told_length p.verdict p.state trace))
+
+-- the verdict's line is the first of those that are printed
+pub printed_within : (p : Played) (trace : List ℕ) → ((printed_of p trace).verdict ≤ (printed_of p trace).len) × ((printed_of p trace).len ≤ 128)
+unfolding lines_of
+printed_within p trace = (rw length-append (omega arith), lines_fit p trace)
 
 -- ---- a triple that differs
 
@@ -114,7 +117,7 @@ pub play_within : (o : Option Inputs) (trace : List ℕ) → Within (play_in o t
 play_within none trace = tt
 play_within (some i) trace = go (play_of i trace).verdict refl
   where
-    go : (v : Verdict) → (play_of i trace).verdict ≡ v → Within v trace
-    go verdict.Agrees e = tt
-    go (verdict.Differs k) e = omega (arith, (plays_first i trace k e).within, length_triples trace)
-    go (verdict.Refused k) e = tt
+    go : (v : Report) → (play_of i trace).verdict ≡ v → Within v trace
+    go (Ok verdict.Agrees) e = tt
+    go (Ok (verdict.Differs k)) e = omega (arith, (plays_first i trace k e).within, length_triples trace)
+    go (Err k) e = tt

@@ -2,22 +2,21 @@
 // printed in specs/Answer.antt.
 #![tactic(auto)]
 
-ghost use Rattle.std.specs.Prelude.{◌≡◌, ◌≤◌, ◌<◌, length, get_or, take, drop};
-ghost use Rattle.text.specs.Page.{Prints};
+ghost use Rattle.std.specs.Prelude.{◌≡◌, ◌≤◌, ◌<◌, length, get_or};
+ghost use Rattle.text.specs.Page.{Puts};
 ghost use Rattle.machine.specs.Setters.{task_at};
-ghost use Rattle.machine.specs.Fresh.{inputs_of};
 ghost use Rattle.machine.specs.Turn.{turn_of};
-ghost use Rattle.playback.specs.Playback.{play_of};
 ghost use Rattle.playback_text.specs.Setup.{setup_in};
 ghost use Rattle.playback_text.specs.Answer as defs;
 ghost use Rattle.playback_text.specs.Steps.{Within};
 
-use machine::{Outcome, Setup, State};
+use machine::{Setup, State, Tables};
 use playback::{Played, Verdict};
-use text::print;
-use text::read::Found;
+use reason::{Reason, Refusal};
+use text::print::Page;
 
-// What is printed, with zeros after it: the bytes of the verdict's line, and those of both lines.
+// What is printed, with zeros after it: the bytes of the verdict's line, and those of both lines. They stand in a buffer with the lengths beside it:
+// no heap, and `printed_of` names these fields.
 #[derive(Clone, Copy)]
 pub struct Printed {
     pub bytes: [u8; 128],
@@ -25,73 +24,67 @@ pub struct Printed {
     pub len: usize,
 }
 
-// Plays a trace from the work lengths, and from the other tables one after the other: so many parents, and then the starts.
-fn play_tables(setup: Setup, tables: &[u8], parents: usize, works: &[u8], trace: &[u8]) -> Played
-    requires { parents ≤ length tables.now }
-    ensures { result ≡ play_of (inputs_of setup (take parents tables.now) (drop parents tables.now) works.now) trace.now }
-{
-    playback::play(setup, &tables[..parents], &tables[parents..], works, trace)
-}
-
-// Plays a trace from the numbers of a setup, of which there are six at least. A work length that no byte holds is none, and becomes 0, which is none
-// either.
+// Plays a trace from the numbers of a setup, six before the entries of the tables. A work length that no byte holds is none, and becomes 0, which is
+// none either. The bound of the length is the caller's: a slice of that buffer carries none. No heap: the bytes stand in buffers of that length.
 fn play_numbers(numbers: &[u32], trace: &[u8]) -> Played
-    requires in_bounds { 6 ≤ length numbers.now }
-    requires numbers_len_bound { length numbers.now ≤ 32768 }
+    requires { length numbers.now ≤ 32768 }
     ensures { result ≡ defs.play_in (setup_in numbers.now) trace.now }
 {
-    let setup = Setup {
-        kind: numbers[0] as usize,
-        n: numbers[1] as usize,
-        modulus: numbers[2] as usize,
+    let [kind, n, modulus, parents, starts, works, entries @ ..] = numbers else {
+        return playback::refused(Reason::Text.into());
     };
-    let parents = numbers[3] as usize;
-    let starts = numbers[4] as usize;
-    let works = numbers[5] as usize;
-    let count = numbers.len() - 6;
-    let tables = parents + starts;
-    if count != tables + works {
-        return playback::refused(1);
+    let setup = Setup {
+        kind: *kind as usize,
+        n: *n as usize,
+        modulus: *modulus as usize,
+    };
+    let parents = *parents as usize;
+    let works = *works as usize;
+    let tables = parents + *starts as usize;
+    if entries.len() != tables + works {
+        return playback::refused(Reason::Text.into());
     }
     let mut bytes = [0u8; 32768];
-    text::read::bytes(&numbers[6..6 + tables], 255, &mut bytes);
+    text::read::bytes(&entries[..tables], 255, &mut bytes);
     let mut work = [0u8; 32768];
-    text::read::bytes(&numbers[6 + tables..], 0, &mut work);
-    play_tables(setup, &bytes[..tables], parents, &work[..works], trace)
+    text::read::bytes(&entries[tables..], 0, &mut work);
+    let tables = Tables {
+        parents: &bytes[..parents],
+        starts: &bytes[parents..tables],
+        works: &work[..works],
+    };
+    playback::play(setup, tables, trace)
 }
 
-// Plays a trace from a setup text.
+// Plays a trace from a setup text. It reads as `reader::read` does, which is no plainer to share: a refusal here is a `Played`, there has a place.
 fn play_text(setup: &[u8], trace: &[u8]) -> Played
     ensures { result ≡ defs.play_text setup.now trace.now }
 {
     let mut numbers = [0u32; 32768];
-    let found = text::read::numbers(setup, &mut numbers);
-    let Found::Count(count) = found else {
-        return playback::refused(1);
+    let Some(count) = text::read::numbers(setup, &mut numbers) else {
+        return playback::refused(Reason::Text.into());
     };
-    if count < 6 {
-        return playback::refused(1);
-    }
     play_numbers(&numbers[..count], trace)
 }
 
-// A word, a space, a number and a line feed.
-fn print_counted(page: &mut [u8], at: usize, word: &[u8], x: usize) -> usize
-    ensures { Prints at (defs.counted_line word.now x) page.old result page.new }
+// A word, a space, a number and a line feed. Here and below there is no `write!`, which promises what it writes only where all of it is written:
+// `Puts` says also what a short page gets.
+fn print_counted(page: &mut Page, word: &[u8], x: usize)
+    ensures { Puts (defs.counted_line word.now x) page.old page.new }
 {
-    let next = print::word(page, at, word);
-    let end = print::spaced(page, next, x);
-    print::byte(page, end, 10)
+    page.word(word);
+    page.spaced(x);
+    page.byte(b'\n');
 }
 
 // The line of a verdict.
-fn print_verdict(page: &mut [u8], verdict: Verdict) -> usize
-    ensures { Prints 0 (defs.verdict_line verdict) page.old result page.new }
+fn print_verdict(page: &mut Page, verdict: Result<Verdict, Refusal>)
+    ensures { Puts (defs.verdict_line verdict) page.old page.new }
 {
     match verdict {
-        Verdict::Agrees => print::word(page, 0, b"agrees\n"),
-        Verdict::Differs(index) => print_counted(page, 0, b"differs", index),
-        Verdict::Refused(reason) => print_counted(page, 0, b"refused", reason as usize),
+        Ok(Verdict::Agrees) => page.word(b"agrees\n"),
+        Ok(Verdict::Differs(index)) => print_counted(page, b"differs", index),
+        Err(refusal) => print_counted(page, b"refused", refusal.number() as usize),
     }
 }
 
@@ -104,20 +97,19 @@ fn line_of(state: State, task: usize) -> u8
 }
 
 // The line of what a turn does.
-fn print_turn(page: &mut [u8], at: usize, state: State, task: usize) -> usize
-    ensures { Prints at (defs.turn_line state task (turn_of state task).outcome) page.old result page.new }
+fn print_turn(page: &mut Page, state: State, task: usize)
+    ensures { Puts (defs.turn_line state task (turn_of state task).outcome) page.old page.new }
 {
     let turned = state.turn(task);
-    let outcome = turned.outcome;
-    let next = print::number(page, at, task);
-    match outcome {
-        Outcome::Made(how) => {
-            let end = print::spaced(page, next, line_of(state, task) as usize);
-            print_counted(page, end, b"", how.number() as usize)
+    page.number(task);
+    match turned.outcome {
+        Ok(how) => {
+            page.spaced(line_of(state, task) as usize);
+            print_counted(page, b"", how.number() as usize);
         }
-        Outcome::Refused(reason) => {
-            let end = print::byte(page, next, 32);
-            print_counted(page, end, b"refused", reason as usize)
+        Err(refusal) => {
+            page.byte(b' ');
+            print_counted(page, b"refused", refusal.number() as usize);
         }
     }
 }
@@ -126,31 +118,31 @@ fn print_turn(page: &mut [u8], at: usize, state: State, task: usize) -> usize
 fn byte_at(bytes: &[u8], at: usize) -> u8
     ensures { result ≡ get_or bytes.now at 0 }
 {
-    if at < bytes.len() { bytes[at] } else { 0 }
+    bytes.get(at).copied().unwrap_or_default()
 }
 
 // Where a triple differs, the line of what the turn of its task does from the state before it.
-fn print_told(page: &mut [u8], at: usize, verdict: Verdict, state: State, trace: &[u8]) -> usize
+fn print_told(page: &mut Page, verdict: Result<Verdict, Refusal>, state: State, trace: &[u8])
     requires { Within verdict trace.now }
-    ensures { Prints at (defs.told_line verdict state trace.now) page.old result page.new }
+    ensures { Puts (defs.told_line verdict state trace.now) page.old page.new }
 {
-    match verdict {
-        Verdict::Agrees => at,
-        Verdict::Differs(index) => print_turn(page, at, state, byte_at(trace, 3 * index) as usize),
-        Verdict::Refused(_) => at,
+    if let Ok(Verdict::Differs(index)) = verdict {
+        print_turn(page, state, byte_at(trace, 3 * index) as usize);
     }
 }
 
 // Plays a trace from a setup text, and prints what is reported.
 pub fn play(setup: &[u8], trace: &[u8]) -> Printed
-    ensures { result ≡ defs.printed_of (defs.play_text setup.now trace.now) trace.now }
+    ensures value { result ≡ defs.printed_of (defs.play_text setup.now trace.now) trace.now }
+    ensures within { (result.verdict ≤ result.len) × (result.len ≤ 128) }
 {
     let mut bytes = [0u8; 128];
+    let mut page = Page::new(&mut bytes);
     let played = play_text(setup, trace);
-    let state = played.state;
-    let found = played.verdict;
-    let verdict = print_verdict(&mut bytes, found);
-    let len = print_told(&mut bytes, verdict, found, state, trace);
+    print_verdict(&mut page, played.verdict);
+    let verdict = page.place();
+    print_told(&mut page, played.verdict, played.state, trace);
+    let len = page.place();
     Printed {
         bytes,
         verdict,

@@ -1,10 +1,12 @@
 -- From a text to the five things that it says, or a refusal (01, "The sheet program" and reasons 1 to 6 and 9).
-use Rattle.std.specs.Prelude.{Bool, ◌&&◌, List, [], ◌∷◌, ◌++◌, ℕ, eqb, leb, length, take, drop}
+use Rattle.std.specs.Prelude.{Bool, ◌&&◌, List, [], ◌∷◌, ◌++◌, ℕ, eqb, leb, length, take, drop, Result, Ok, Err}
 use Rattle.std.proofs.Math.Option.{Option, none, some}
 use Rattle.bitset.specs.Choice.{pick}
 use Rattle.text.specs.Numbers.{numbers_of}
 use Rattle.schedule.specs.Passes.{unknown_at, all_tasks}
 use Rattle.machine.specs.Fresh.{Inputs, inputs_of, fresh_reason}
+use Rattle.reason.specs.declared.PlacedRefusal.{PlacedRefusal}
+use Rattle.reason.specs.Placed.{placed}
 use Rattle.reader.specs.declared.Said.{Said}
 
 -- the five things: kind, N, R, parents and schedule
@@ -61,9 +63,30 @@ abbrev pub within : Reading → ℕ → ℕ → Reading
 within (five f) parents turns = pick (room_for f parents turns) (five f) (refused 10 0)
 within (refused reason place) parents turns = refused reason place
 
+-- the same as the code answers it
+abbrev pub answer_of : Reading → Result Said PlacedRefusal
+answer_of (five f) =
+    Ok (record {
+      setup = record { kind = f.inputs.kind; n = f.inputs.n; modulus = f.inputs.modulus };
+      parents = length f.inputs.parents;
+      turns = length f.schedule;
+    })
+answer_of (refused reason place) = Err (placed reason place)
+
+-- ---- by numbers
+
+pub record Told : Type 0 where
+  pub reason : ℕ
+  pub place : ℕ
+  pub kind : ℕ
+  pub n : ℕ
+  pub modulus : ℕ
+  pub parents : ℕ
+  pub turns : ℕ
+
 -- what is told of a reading: the reason and the place of a refusal, each 0 where there is none; kind, N, R, and how many parents and turns there
 -- are: "every other number in the answer is 0" where it is refused
-abbrev pub said_of : Reading → Said
+abbrev pub said_of : Reading → Told
 said_of (five f) =
     record {
       reason = 0;

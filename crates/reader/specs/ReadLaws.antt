@@ -1,9 +1,9 @@
 -- Laws of what a text says: which reason applies, what an accepted text has, and that the bytes of its numbers say the same as the numbers.
-use Rattle.std.specs.Prelude.{◌≡◌, refl, Bool, true, false, List, [], ◌∷◌, map, ◌≢◌, ℕ, zero, suc, ◌≤◌, ◌<◌, min, eqb, leb, length, take, drop, get_or}
+use Rattle.std.specs.Prelude.{◌≡◌, refl, Bool, true, false, List, [], ◌∷◌, map, ◌≢◌, ℕ, ◌≤◌, ◌<◌, min, eqb, leb, length, take, drop, get_or, Ok, Err}
 use Rattle.std.proofs.Common.{sym, ap, ◌∙◌, subst, arith, length-drop, eq-eqb, ne_eqb, le-leb, eqb-true, leb-true}
 use Rattle.std.proofs.Math.Option.{Option, none, some}
 use Rattle.std.proofs.Math.Decide.{ℕ_discrete}
-use Rattle.std.proofs.lemmas.List.{length-map}
+use Rattle.std.proofs.lemmas.List.{length-map, take_min, drop_min}
 use Rattle.std.proofs.lemmas.Bool.{eqb-false}
 use Rattle.bitset.specs.Choice.{pick}
 use Rattle.bitset.specs.ChoiceLaws.{by_test}
@@ -11,26 +11,21 @@ use Rattle.text.specs.Numbers.{numbers_from, max_text, low, over}
 use Rattle.text.specs.NumbersLaws.{numbers_few, over_whole, low_below, low_list, low_alike}
 use Rattle.schedule.specs.Passes.{unknown_at, all_tasks}
 use Rattle.schedule.specs.PassesLaws.{all_known, unknown_le, unknown_alike}
+use Rattle.machine.specs.declared.Setup.{Setup}
 use Rattle.machine.specs.Fresh.{Inputs, inputs_of, fresh_reason}
 use Rattle.machine.specs.FreshLaws.{with_entries, accepted_inputs, parents_few, entries_reason, entries_same}
-use Rattle.reader.specs.Read.{Five, Reading, five, refused, parent_count, five_of, checked, read_numbers, read_option, read_of, within, said_of, parents_in, turns_in, read_within}
+use Rattle.reader.specs.Read.{Five, Reading, five, refused, parent_count, five_of, checked, read_numbers, read_option, read_of, within, said_of, answer_of, parents_in, turns_in, read_within}
+use Rattle.reason.specs.declared.PlacedRefusal.{PlacedRefusal}
+use Rattle.reader.specs.declared.Said.{Said}
 
 -- ---- the first numbers, and those after them
 
 -- as many as there are
 pub take_few : (k : ℕ) (xs : List ℕ) → take (min k (length xs)) xs ≡ take k xs
-take_few zero xs = let e : min 0 (length xs) ≡ 0 = omega arith in rw e
-take_few (suc k) [] = let e : min (suc k) 0 ≡ 0 = omega arith in rw e
-take_few (suc k) (x ∷ xs) =
-    let e : min (suc k) (suc (length xs)) ≡ suc (min k (length xs)) = omega arith in
-    rw e (ap (λ (l : List ℕ). x ∷ l) (take_few k xs))
+take_few = take_min
 
 pub drop_few : (k : ℕ) (xs : List ℕ) → drop (min k (length xs)) xs ≡ drop k xs
-drop_few zero xs = let e : min 0 (length xs) ≡ 0 = omega arith in rw e
-drop_few (suc k) [] = let e : min (suc k) 0 ≡ 0 = omega arith in rw e
-drop_few (suc k) (x ∷ xs) =
-    let e : min (suc k) (suc (length xs)) ≡ suc (min k (length xs)) = omega arith in
-    rw e (drop_few k xs)
+drop_few = drop_min
 
 -- ---- the turns
 
@@ -53,6 +48,10 @@ low_reason = entries_reason low low_alike
 -- tables that are accepted are their own bytes
 pub low_inputs_lem : (i : Inputs) → fresh_reason i ≡ 0 → low_inputs i ≡ i
 low_inputs_lem = entries_same low low_alike
+
+-- no table but the parents is given
+pub given : (s : Setup) (ps a b d : List ℕ) → (a ≡ ps) × (b ≡ []) × (d ≡ []) → inputs_of s a b d ≡ inputs_of s ps [] []
+given s ps a b d e = rw (e.0, e.1, e.2)
 
 -- ---- which reason applies
 
@@ -88,6 +87,19 @@ module _ (f : Five) where
           told true = rw (length-map f.inputs.parents low, length-map f.schedule low)
           told false = refl
 
+  pub low_answer : answer_of (checked low_five) ≡ answer_of (checked f)
+  low_answer = go (ℕ_discrete (fresh_reason f.inputs) 0)
+    where
+      go : Dec (fresh_reason f.inputs ≡ 0) → answer_of (checked low_five) ≡ answer_of (checked f)
+      go (no ne) = rw (low_reason f.inputs, ne_eqb (fresh_reason f.inputs) 0 ne)
+      go (yes z) =
+          rw (low_reason f.inputs, eq-eqb (fresh_reason f.inputs) 0 z, length-map f.schedule low, low_unknown f.inputs.n f.schedule (omega (arith, (accepted_inputs f.inputs z).few)))
+          (told (all_tasks f.inputs.n f.schedule))
+        where
+          told : (b : Bool) → answer_of (pick b (five low_five) (refused 9 (unknown_at f.inputs.n f.schedule))) ≡ answer_of (pick b (five f) (refused 9 (unknown_at f.inputs.n f.schedule)))
+          told true = rw (length-map f.inputs.parents low, length-map f.schedule low)
+          told false = refl
+
   -- what is said to be accepted is
   pub said_five : (said_of (checked f)).reason ≡ 0 → (fresh_reason f.inputs ≡ 0) × (all_tasks f.inputs.n f.schedule ≡ true) × (checked f ≡ five f)
   said_five = go (ℕ_discrete (fresh_reason f.inputs) 0)
@@ -106,6 +118,21 @@ pub said_refused : (r : Reading) → (said_of r).reason ≢ 0
 said_refused (five f) ne = absurd (ne refl)
 said_refused (refused reason place) ne = (λ p t. refl, λ buffer. refl, λ buffer. refl)
 
+-- the same by the code's answer
+pub answered_err : {e : PlacedRefusal} (r : Reading) → answer_of r ≡ Err e
+    → ((p t : ℕ) → answer_of (within r p t) ≡ Err e) × ((p t : ℕ) (buffer : List ℕ) → parents_in (within r p t) buffer ≡ buffer)
+    × ((p t : ℕ) (buffer : List ℕ) → turns_in (within r p t) buffer ≡ buffer)
+answered_err (five f) e = cc
+answered_err (refused reason place) e = (λ p t. e, λ p t buffer. refl, λ p t buffer. refl)
+
+pub answered_refused : {e : PlacedRefusal} (r : Reading) → answer_of r ≡ Err e → r ≡ refused e.refusal e.place
+answered_refused (five f) e = cc
+answered_refused {e = r} (refused reason place) e = let k : reason ≡ r.refusal = cc in let p : place ≡ r.place = cc in rw (k, p)
+
+pub answered_ok : {s : Said} (r : Reading) → answer_of r ≡ Ok s → (f : Five) × (r ≡ five f)
+answered_ok (five f) e = (f, refl)
+answered_ok (refused reason place) e = cc
+
 pub three : (ns : List ℕ) → 3 ≤ length ns → read_numbers ns ≡ checked (five_of (get_or ns 0 0) (get_or ns 1 0) (get_or ns 2 0) (drop 3 ns))
 three [] h = absurd (omega arith)
 three (a ∷ []) h = absurd (omega arith)
@@ -117,6 +144,13 @@ fewer [] h = refl
 fewer (a ∷ []) h = refl
 fewer (a ∷ b ∷ []) h = refl
 fewer (a ∷ b ∷ c ∷ ns) h = absurd (omega arith)
+
+-- numbers of which no reason is told are three at least
+pub accepted_three : (ns : List ℕ) → (said_of (read_numbers ns)).reason ≡ 0 → 3 ≤ length ns
+accepted_three [] e = absurd (omega (arith, e))
+accepted_three (a ∷ []) e = absurd (omega (arith, e))
+accepted_three (a ∷ b ∷ []) e = absurd (omega (arith, e))
+accepted_three (a ∷ b ∷ c ∷ ns) e = omega arith
 
 -- ---- what is written of accepted things
 

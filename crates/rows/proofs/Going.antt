@@ -8,18 +8,17 @@ use native.Mathlib.Numerals.{add-one}
 use native.Mathlib.Omega.{arith}
 use lib.Dec.{eqb, ltb}
 use lib.ListN.{length, get_or, take, drop, set, length-append, length-drop, length-set, drop_of_length-le}
-use lib.Seq.{get_or-drop, drop-cons, drop-drop}
-use borrow.Rule.Slice.PartMut.{put_mid}
+use lib.Seq.{paste, get_or-drop, drop-cons, drop-drop}
 use Rattle.bitset.specs.Choice.{pick}
 use Rattle.bitset.specs.TableLaws.{table_at, table_set}
 use Rattle.counts.specs.declared.Least.{Least}
-use Rattle.counts.specs.Counts.{lowest, least_among}
+use Rattle.counts.specs.Counts.{lowest, least_among, least_after}
 use Rattle.counts.specs.CountsLaws.{rise_least}
 use Rattle.lines.specs.Common.{max_count}
 use Rattle.machine.specs.declared.State.{State}
 use Rattle.machine.specs.declared.Move.{Move}
-use Rattle.machine.specs.declared.Outcome.{Outcome}
-use Rattle.machine.specs.declared.Outcome.TheVariants.{Made, Refused}
+use Rattle.machine.specs.Answers.{Outcome}
+use Rattle.std.specs.Prelude.{Ok, Err}
 use Rattle.machine.specs.Setters.{task_at}
 use Rattle.machine.specs.Range.{Valid}
 use Rattle.machine.specs.RangeLaws.{range}
@@ -36,8 +35,8 @@ use Rattle.runner.specs.Run.{log_of}
 use Rattle.runner.specs.RunLaws.{log_row}
 use Rattle.rows.specs.Rows.{turn_row, row_numbers}
 use Rattle.rows.specs.RowsLaws.{rows_none, rows_turn}
-use Rattle.rows.specs.Counting.{rise_at, least_after, turn_counts}
-use Rattle.rows.proofs.Tail.{tail_long, tail_room, tail_more}
+use Rattle.rows.specs.Counting.{rise_at, turn_counts}
+use Rattle.rows.proofs.Tail.{tail_more}
 
 pub record Going (s : State) (ts log rows₀ : List ℕ) (i : ℕ) (counts : List ℕ) (low : Least) (rows : List ℕ) : Type 0 where
   -- the state after the turns passed, and their rows
@@ -86,13 +85,6 @@ going_none s ts log rows counts low ok on logged counted e =
     }
 
 module _ {s : State} {ts log rows₀ : List ℕ} {i : ℕ} {counts : List ℕ} {low : Least} {rows : List ℕ} (g : Going s ts log rows₀ i counts low rows) where
-  -- the list keeps its length
-  pub rows_long : 6 * i ≤ length rows₀ → length rows ≡ length rows₀
-  rows_long = tail_long g.done rows₀ rows (6 * i) g.written g.long
-
-  pub rows_room : 6 * i + 6 ≤ length rows₀ → 6 ≤ length (take (length rows - 6 * i) (drop (6 * i) rows))
-  rows_room = tail_room g.done rows₀ rows (6 * i) g.written g.long 6
-
   -- the counts are there
   pub counts_there : s.n ≤ length counts
   counts_there = lent_there g.state s.n (omega (arith, (range g.state g.valid).few, g.tasks)) counts g.counted
@@ -119,10 +111,10 @@ module _ {s : State} {ts log rows₀ : List ℕ} {i : ℕ} {counts : List ℕ} {
     -- what its move or wait made
     record Next : Type 0 where
       pub how : Move
-      pub made : (turn_of g.state p).outcome ≡ Made how
+      pub made : (turn_of g.state p).outcome ≡ Ok how
       pub on : (trace_of after rest).stop ≡ nothing
       pub logged : drop (2 * i) log ≡ (task_at g.state p).line ∷ move_number how ∷ log_of (trace_of after rest).made
-      pub whole : row_numbers s ts ≡ g.done ++ turn_row g.state p after (Made how) (row_numbers after rest)
+      pub whole : row_numbers s ts ≡ g.done ++ turn_row g.state p after (Ok how) (row_numbers after rest)
 
     next : Next
     next =
@@ -137,9 +129,9 @@ module _ {s : State} {ts log rows₀ : List ℕ} {i : ℕ} {counts : List ℕ} {
             → drop (2 * i) log ≡ log_of (turned g.state p o (trace_of after rest)).made
             → row_numbers s ts ≡ g.done ++ turn_row g.state p after o (row_numbers after rest)
             → Next
-        go (Made how) e on logged whole =
+        go (Ok how) e on logged whole =
             record { how = how; made = e; on = on; logged = logged ∙ log_row (record { task = p; line = (task_at g.state p).line; how = how }) (trace_of after rest).made; whole = whole }
-        go (Refused k) e on logged whole = let z : ◌≡◌ {A = ℕ} 0 1 = cc in absurd (omega arith)
+        go (Err k) e on logged whole = let z : ◌≡◌ {A = ℕ} 0 1 = cc in absurd (omega arith)
 
     known : p < g.state.n
     known = (turn_makes g.state p next.how next.made).known
@@ -220,12 +212,15 @@ module _ {s : State} {ts log rows₀ : List ℕ} {i : ℕ} {counts : List ℕ} {
         closed_is = omega (arith, low_is, low'_is, turn_round g.state p next.how next.made)
 
         abbrev row : List ℕ
-        row = turn_row g.state p after (Made next.how) []
+        row = turn_row g.state p after (Ok next.how) []
 
-        pub goes_on_lem : (tail : List ℕ)
-            → tail ≡ p ∷ get_or log (2 * i) 0 ∷ get_or log (2 * i + 1) 0 ∷ (get_or counts p 0 + up) ∷ low'.count ∷ (low'.count - low.count) ∷ drop 6 (take (length rows - 6 * i) (drop (6 * i) rows))
-            → Going s ts log rows₀ (i + 1) counts' low' (put_mid (6 * i) (length rows - 6 * i) rows tail)
-        goes_on_lem tail wrote =
+        -- the same, as the code holds it
+        abbrev told_row : List ℕ
+        told_row = p ∷ get_or log (2 * i) 0 ∷ get_or log (2 * i + 1) 0 ∷ (get_or counts p 0 + up) ∷ low'.count ∷ (low'.count - low.count) ∷ []
+
+        pub goes_on_lem : (rows' : List ℕ) → rows' ≡ paste rows (6 * i) told_row 6
+            → Going s ts log rows₀ (i + 1) counts' low' rows'
+        goes_on_lem rows' wrote =
             record {
               state = after;
               done = g.done ++ row;
@@ -246,9 +241,9 @@ module _ {s : State} {ts log rows₀ : List ℕ} {i : ℕ} {counts : List ℕ} {
                 let e : 2 * (i + 1) ≡ 2 * i + 2 = omega arith in
                 rw (e, add-one i) (sym (drop-drop 2 (2 * i) log) ∙ ap (drop 2) next.logged)
 
-            more_written : put_mid (6 * i) (length rows - 6 * i) rows tail ≡ (g.done ++ row) ++ drop (6 * (i + 1)) rows₀
+            more_written : rows' ≡ (g.done ++ row) ++ drop (6 * (i + 1)) rows₀
             more_written =
                 let e : 6 * (i + 1) ≡ 6 * i + 6 = omega arith in
-                let told : tail ≡ row ++ drop 6 (take (length rows - 6 * i) (drop (6 * i) rows)) = cc (wrote, line_is, moved_is, next_is, closed_is, low'_is) in
-                ap (put_mid (6 * i) (length rows - 6 * i) rows) told
-                ∙ tail_more g.done rows₀ rows (6 * i) g.written g.long row 6 ∙ rw e
+                let told : told_row ≡ row = cc (line_is, moved_is, next_is, closed_is, low'_is) in
+                wrote ∙ ap (λ (l : List ℕ). paste rows (6 * i) l 6) told
+                ∙ tail_more g.done rows₀ rows (6 * i) g.written g.long row ∙ rw e

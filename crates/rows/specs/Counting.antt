@@ -1,10 +1,8 @@
--- Counts, told from a log: which line raises a task's count, by how much a turn raises it, and what becomes of the least count.
-use Rattle.std.specs.Prelude.{◌≡◌, refl, Bool, true, false, ◌&&◌, ◌||◌, not, List, ◌≢◌, ℕ, ◌+◌, eqb, leb, ltb}
+-- Counts, told from a log: which line raises a task's count, and by how much a turn raises it.
+use Rattle.std.specs.Prelude.{◌≡◌, refl, Bool, true, false, ◌&&◌, ◌||◌, not, List, ◌≢◌, ℕ, ◌+◌, eqb, leb, ltb, Ok}
 use Rattle.std.proofs.Common.{ap, ◌∙◌, arith, eq-eqb, ne_eqb}
 use Rattle.bitset.specs.Choice.{pick}
 use Rattle.bitset.specs.ChoiceLaws.{by_test}
-use Rattle.counts.specs.declared.Least.{Least}
-use Rattle.counts.specs.Counts.{risen_of}
 use Rattle.lines.specs.declared.Task.{Task}
 use Rattle.lines.specs.declared.Shared.{Shared}
 use Rattle.lines.specs.declared.Effect.{Effect}
@@ -16,7 +14,6 @@ use Rattle.lines.specs.LineLaws.{by_kind, by_symmetric, by_increment, by_ring, b
 use Rattle.machine.specs.declared.State.{State}
 use Rattle.machine.specs.declared.Move.{Move}
 use Rattle.machine.specs.declared.Move.TheVariants.{Moved, Waited}
-use Rattle.machine.specs.declared.Outcome.TheVariants.{Made}
 use Rattle.machine.specs.Setters.{task_at}
 use Rattle.machine.specs.Range.{shared_of, table_of}
 use Rattle.machine.specs.Least.{count_of}
@@ -31,10 +28,6 @@ counting_line kind = pick (eqb kind 0) 12 (pick (eqb kind 3) 15 13)
 -- by how much a turn raises its task's count: 1 for a move at that line, else 0
 abbrev pub rise_at : ℕ → ℕ → ℕ → ℕ
 rise_at kind line moved = pick (eqb line (counting_line kind) && eqb moved 1) 1 0
-
--- the least count once a task's count has gone from `count` to `next`, and the counts of n tasks are f then
-abbrev pub least_after : Least → ℕ → ℕ → (ℕ → ℕ) → ℕ → Least
-least_after l count next f n = pick (not (eqb next count) && eqb count l.count) (risen_of l f n) l
 
 -- ---- a count rises at the counting line alone
 
@@ -91,7 +84,7 @@ line_counts s table p t seen =
     waited
 
 -- so a turn that is made raises its task's count by 1 at a move of the counting line, and keeps it else
-pub turn_counts : (s : State) (p : ℕ) (how : Move) → (turn_of s p).outcome ≡ Made how
+pub turn_counts : (s : State) (p : ℕ) (how : Move) → (turn_of s p).outcome ≡ Ok how
     → count_of (turn_of s p).state p ≡ count_of s p + rise_at s.kind (task_at s p).line (move_number how)
 turn_counts s p how e =
     let m = turn_makes s p how e in

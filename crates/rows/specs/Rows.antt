@@ -1,10 +1,9 @@
 -- The numbers of a run, in rows: six of each turn that it made, and four of each task at its end.
-use Rattle.std.specs.Prelude.{Bool, true, false, List, [], ◌∷◌, ◌++◌, ℕ, zero, suc, ◌*◌, min, eqb, leb, length, get_or, take, drop}
+use Rattle.std.specs.Prelude.{Bool, true, false, List, [], ◌∷◌, ◌++◌, ℕ, zero, suc, ◌*◌, min, eqb, leb, length, get_or, take, drop, Ok, Err}
 use Rattle.bitset.specs.Choice.{pick}
 use Rattle.setup.specs.Reasons.{first_reason}
 use Rattle.machine.specs.declared.State.{State}
-use Rattle.machine.specs.declared.Outcome.{Outcome}
-use Rattle.machine.specs.declared.Outcome.TheVariants as outcome
+use Rattle.machine.specs.Answers.{Outcome}
 use Rattle.machine.specs.Setters.{task_at}
 use Rattle.machine.specs.Least.{count_of, least}
 use Rattle.machine.specs.Turn.{turn_of, move_number, closed_number}
@@ -27,7 +26,7 @@ abbrev pub is_refused : Ending → Bool
 is_refused Done = false
 is_refused Spent = false
 is_refused (Stopped k) = false
-is_refused (Refused k at) = true
+is_refused (Refused r) = true
 
 -- "Refusals as a run's, 10 for a short list"
 unfoldable pub listed_reason : State → List ℕ → ℕ → List ℕ → Bool → ℕ
@@ -52,8 +51,8 @@ listed_rows reason new rows = pick (eqb reason 0) (new ++ drop (length new) rows
 -- "for every turn its task, line before, outcome (1 or 0), the task's count after it, the least count after it, and whether it closed a round";
 -- then the rows of the turns after it. A refused turn ends them.
 abbrev pub turn_row : State → ℕ → State → Outcome → List ℕ → List ℕ
-turn_row s p after (outcome.Made how) rest = p ∷ (task_at s p).line ∷ move_number how ∷ count_of after p ∷ least after ∷ closed_number how ∷ rest
-turn_row s p after (outcome.Refused k) rest = []
+turn_row s p after (Ok how) rest = p ∷ (task_at s p).line ∷ move_number how ∷ count_of after p ∷ least after ∷ closed_number how ∷ rest
+turn_row s p after (Err k) rest = []
 
 -- the rows of the defined turns ts from the state s
 unfoldable pub row_numbers : State → List ℕ → List ℕ

@@ -1,11 +1,10 @@
 -- Laws of the rows: what the ending tells of a refusal, how long the rows are, and what a run hands on for them.
-use Rattle.std.specs.Prelude.{◌≡◌, refl, true, false, List, [], ◌∷◌, ◌++◌, ◌≢◌, ℕ, zero, suc, ◌+◌, ◌*◌, ◌≤◌, min, eqb, ltb, length, take, drop}
+use Rattle.std.specs.Prelude.{◌≡◌, refl, true, false, List, [], ◌∷◌, ◌++◌, ◌≢◌, ℕ, zero, suc, ◌+◌, ◌*◌, ◌≤◌, min, eqb, ltb, length, take, drop, Ok, Err}
 use Rattle.std.proofs.Common.{sym, ap, ◌∙◌, true≢false, add-one, arith, length-append, length-take, length-take-le, take_at, take-take}
 use Rattle.std.proofs.Math.Decide.{ℕ_discrete}
 use Rattle.bitset.specs.ChoiceLaws.{by_test}
 use Rattle.machine.specs.declared.State.{State}
-use Rattle.machine.specs.declared.Outcome.{Outcome}
-use Rattle.machine.specs.declared.Outcome.TheVariants.{Made, Refused}
+use Rattle.machine.specs.Answers.{Outcome}
 use Rattle.machine.specs.Setters.{task_at}
 use Rattle.machine.specs.Range.{Valid}
 use Rattle.machine.specs.Turn.{turn_of}
@@ -106,8 +105,8 @@ length_rows s (p ∷ ts) = rw (rows_turn s p ts, trace_turn s p ts) (go (turn_of
     more = row_numbers (turn_of s p).state ts
 
     go : (o : Outcome) → length more ≡ 6 * length rest.made → length (turn_row s p (turn_of s p).state o more) ≡ 6 * length (turned s p o rest).made
-    go (Made how) ih = omega (arith, ih)
-    go (Refused k) ih = refl
+    go (Ok how) ih = omega (arith, ih)
+    go (Err k) ih = refl
 
 -- the turns made, taken alone: nothing stops them, and they have the same rows
 pub record Alone (s : State) (all made : List ℕ) : Type 0 where
@@ -125,13 +124,13 @@ made_alone s (p ∷ ts) = rw (trace_turn s p ts) (go (turn_of s p).outcome refl 
 
     go : (o : Outcome) → (turn_of s p).outcome ≡ o → Alone (turn_of s p).state ts (take (length rest.made) ts)
         → Alone s (p ∷ ts) (take (length (turned s p o rest).made) (p ∷ ts))
-    go (Made how) e ih =
+    go (Ok how) e ih =
         record {
           on = rw (trace_turn s p (take (length rest.made) ts), e) ih.on;
           same = rw (trace_turn s p (take (length rest.made) ts), trace_turn s p ts, e) (ap (λ (l : List Row). record { task = p; line = (task_at s p).line; how = how } ∷ l) ih.same);
-          rows = rw e (ap (λ (l : List ℕ). turn_row s p (turn_of s p).state (Made how) l) ih.rows);
+          rows = rw e (ap (λ (l : List ℕ). turn_row s p (turn_of s p).state (Ok how) l) ih.rows);
         }
-    go (Refused k) e ih = record { on = rw (trace_none s); same = rw (trace_none s, trace_turn s p ts, e); rows = rw e }
+    go (Err k) e ih = record { on = rw (trace_none s); same = rw (trace_none s, trace_turn s p ts, e); rows = rw e }
 
 -- What a run that is not refused as a whole hands on: the turns that it made, as the first of the schedule, and their rows of the log.
 pub record Handed (s : State) (schedule : List ℕ) (allowance : ℕ) (log' : List ℕ) (turns : ℕ) : Type 0 where

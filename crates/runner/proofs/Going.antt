@@ -19,7 +19,7 @@ use Rattle.counts.specs.CountsLaws.{KeptOrRaised, least_same}
 use Rattle.machine.specs.declared.State.{State}
 use Rattle.machine.specs.declared.Move.{Move}
 use Rattle.machine.specs.declared.Turned.{Turned}
-use Rattle.machine.specs.declared.Outcome.TheVariants.{Made, Refused}
+use Rattle.std.specs.Prelude.{Ok, Err}
 use Rattle.machine.specs.Setters.{task_at, moves_at, waits_at}
 use Rattle.machine.specs.Tally.{max_tally}
 use Rattle.machine.proofs.TallyLaws.{moves_limit, waits_limit}
@@ -238,7 +238,7 @@ module _ {s : State} {schedule log₀ : List ℕ} {i : ℕ} {state : State} {hel
     place_there = rw does (omega (arith, place_known state p g.valid known, (range state g.valid).few))
 
     -- what the run answers where it is refused
-    pub stopped : (end : Ending) (k reason turns before : ℕ) → answer_of state p e ≡ Refused k → reason ≡ k → i < turns → before ≡ count.least s
+    pub stopped : (end : Ending) (k reason turns before : ℕ) → answer_of state p e ≡ Err k → reason ≡ k → i < turns → before ≡ count.least s
         → (record { state = state; ending = Stopped reason; turns = i; rounds = held.least.count - before; moves = rise_of s.moves state.moves; waits = rise_of s.waits state.waits }
         ≡ ran_of (trace_of s (take turns schedule)) end)
         × (log ≡ logged_of (trace_of s (take turns schedule)) log₀)
@@ -254,7 +254,7 @@ module _ {s : State} {schedule log₀ : List ℕ} {i : ℕ} {state : State} {hel
             ap (λ (m : ℕ). take m schedule) (sym e) ∙ take-add i (suc (turns - i - 1)) schedule
             ∙ ap (λ (l : List ℕ). take i schedule ++ take (suc (turns - i - 1)) l) (drop-cons schedule i 0 next.less)
 
-        answer : (turn_of state p).outcome ≡ Refused k
+        answer : (turn_of state p).outcome ≡ Err k
         answer = ap (λ (r : Turned). r.outcome) (turn_refused state p g.valid known k (rw does at refused))
 
         stop : trace_of s (take turns schedule) ≡ record { made = rows; state = state; stop = refusal p k }
@@ -264,11 +264,11 @@ module _ {s : State} {schedule log₀ : List ℕ} {i : ℕ} {state : State} {hel
             g.here (trace_stopped s (take i schedule) p g.on k us (rw g.here answer))
 
     -- what the loop holds after it where it is made
-    module _ (how : Move) (made : answer_of state p e ≡ Made how) where
+    module _ (how : Move) (made : answer_of state p e ≡ Ok how) where
       abbrev row : Row
       row = record { task = p; line = (task_at state p).line; how = how }
 
-      turn : turn_of state p ≡ record { state = stored state p e how; outcome = Made how }
+      turn : turn_of state p ≡ record { state = stored state p e how; outcome = Ok how }
       turn = rw does (turn_made state p g.valid known how (rw does at made))
 
       with_one : trace_of s (take (i + 1) schedule) ≡ record { made = rows ++ row ∷ []; state = (turn_of state p).state; stop = nothing }
@@ -297,7 +297,7 @@ module _ {s : State} {schedule log₀ : List ℕ} {i : ℕ} {state : State} {hel
             at = λ q h. at q h (ℕ_discrete q p);
           }
         where
-          answer : (turn_of state p).outcome ≡ Made how
+          answer : (turn_of state p).outcome ≡ Ok how
           answer = ap (λ (r : Turned). r.outcome) turn
 
           at : (q : ℕ) → q < s.n → Dec (q ≡ p) → get_or (set held.counts p e.task.count) q 0 ≡ count_of (turn_of state p).state q

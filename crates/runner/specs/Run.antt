@@ -1,9 +1,12 @@
 -- A run (01, "Run" and the reasons): everything is read off one trace.
-use Rattle.std.specs.Prelude.{List, [], ◌∷◌, ◌++◌, ℕ, ◌+◌, ◌*◌, min, eqb, leb, ltb, length, take, drop, replicate}
+use Rattle.std.specs.Prelude.{List, [], ◌∷◌, ◌++◌, ℕ, ◌+◌, ◌*◌, min, eqb, leb, ltb, length, take, drop, replicate, Result, Ok, Err}
 use Rattle.bitset.specs.Choice.{pick}
+use Rattle.reason.specs.declared.PlacedRefusal.{PlacedRefusal}
+use Rattle.reason.specs.Placed.{placed, checked_at}
 use Rattle.bitset.specs.Table.{table}
 use Rattle.machine.specs.declared.State.{State}
 use Rattle.machine.specs.declared.Move.{Move}
+use Rattle.machine.specs.Answers.{Outcome}
 use Rattle.machine.specs.Range.{check_state}
 use Rattle.machine.specs.Turn.{move_number, wait_number, closed_number}
 use Rattle.schedule.specs.Passes.{max_turns, unknown_at, all_tasks}
@@ -43,12 +46,17 @@ abbrev pub ending_of : Stop → Ending → Ending
 ending_of nothing end = end
 ending_of (refusal p k) end = Stopped k
 
+-- the same by a turn's answer
+abbrev pub ending_by : Outcome → Ending → Ending
+ending_by (Ok how) end = end
+ending_by (Err k) end = Stopped k
+
 -- the paper's number of an ending: the reason, 0 where nothing was refused
 abbrev pub ending_reason : Ending → ℕ
 ending_reason Done = 0
 ending_reason Spent = 0
 ending_reason (Stopped k) = k
-ending_reason (Refused k at) = k
+ending_reason (Refused r) = r.refusal
 
 -- "A run 7 to 10"; 10: a "log under twice the smaller of allowance and schedule length", of `room` bytes here
 unfoldable pub run_reason : State → List ℕ → ℕ → ℕ → ℕ
@@ -64,6 +72,11 @@ run_reason s schedule allowance room =
 -- "every other number in the answer is 0 but the place of 9"
 abbrev pub run_place : State → List ℕ → ℕ → ℕ
 run_place s schedule reason = pick (eqb reason 9) (unknown_at s.n schedule) 0
+
+-- the two, as the code says them
+abbrev pub admission : State → List ℕ → ℕ → ℕ → Result Unit PlacedRefusal
+admission s schedule allowance room =
+    checked_at (run_reason s schedule allowance room) (run_place s schedule (run_reason s schedule allowance room))
 
 -- "A run makes at most as many turns as its allowance."
 abbrev pub run_trace : State → List ℕ → ℕ → Trace
@@ -86,7 +99,7 @@ abbrev pub refused_run : State → ℕ → ℕ → Ran
 refused_run s reason place =
     record {
       state = s;
-      ending = Refused reason place;
+      ending = Refused (placed reason place);
       turns = 0;
       rounds = 0;
       moves = replicate 64 0;

@@ -1,5 +1,5 @@
 -- Laws of what is read off a trace: the tallies, the log, and the turns made.
-use Rattle.std.specs.Prelude.{◌≡◌, refl, Bool, ◌≢◌, ◌⊎◌, eqb, leb, ltb, take, get_or, replicate}
+use Rattle.std.specs.Prelude.{◌≡◌, refl, Bool, ◌≢◌, ◌⊎◌, eqb, leb, ltb, take, get_or, replicate, Ok, Err}
 use Rattle.std.proofs.Common.{sym, ap, ◌∙◌, inl, inr, length-take, get_or-take, eq-eqb, ne_eqb, le-leb, eqb-true}
 use Rattle.std.proofs.Math.Bool.{true, false}
 use mathlib.Core.List.{List, [], ◌∷◌, ◌++◌, map}
@@ -20,8 +20,7 @@ use Rattle.setup.specs.Reasons.{first_reason}
 use Rattle.machine.specs.declared.State.{State}
 use Rattle.machine.specs.declared.Move.{Move}
 use Rattle.machine.specs.declared.Move.TheVariants.{Moved, Waited}
-use Rattle.machine.specs.declared.Outcome.{Outcome}
-use Rattle.machine.specs.declared.Outcome.TheVariants as outcome
+use Rattle.machine.specs.Answers.{Outcome}
 use Rattle.machine.specs.Range.{check_state, Valid}
 use Rattle.machine.specs.Least.{least}
 use Rattle.machine.specs.Setters.{moves_at, waits_at}
@@ -184,7 +183,7 @@ run_not_11 s schedule allowance room =
 pub data Makes (r : Ran) (schedule : List ℕ) (allowance : ℕ) : Type 0 where
   all : r.turns ≡ min allowance (length schedule) → r.ending ≡ unstopped allowance (length schedule) → Makes r schedule allowance
   stopped : (k : ℕ) → (k ≡ 7) ⊎ ((k ≡ 11) ⊎ (k ≡ 13)) → r.ending ≡ Stopped k → r.turns < min allowance (length schedule)
-      → (turn_of r.state (get_or schedule r.turns 0)).outcome ≡ outcome.Refused k → Makes r schedule allowance
+      → (turn_of r.state (get_or schedule r.turns 0)).outcome ≡ Err k → Makes r schedule allowance
 
 pub run_makes : (s : State) (schedule : List ℕ) (allowance : ℕ) (log : List ℕ) → run_reason s schedule allowance (length log) ≡ 0
     → Makes (run_of s schedule allowance log) schedule allowance
@@ -238,7 +237,7 @@ trace_rounds s (p ∷ ts) = rw (trace_turn s p ts) (go (turn_of s p).outcome ref
     rest = trace_of (turn_of s p).state ts
 
     -- a turn that is made carries 1 or 0
-    carries : (how : Move) → (turn_of s p).outcome ≡ outcome.Made how → closed_number how ≡ pick (eqb (closed_number how) 1) 1 0
+    carries : (how : Move) → (turn_of s p).outcome ≡ Ok how → closed_number how ≡ pick (eqb (closed_number how) 1) 1 0
     carries (Moved c) e =
         rw (turn_closed_lem s p c e)
         (by_test (λ (x : ℕ). x ≡ pick (eqb x 1) 1 0) (ltb (least s) (least (turn_of s p).state)) {x = 1} {y = 0} (λ _. refl) (λ _. refl))
@@ -246,8 +245,8 @@ trace_rounds s (p ∷ ts) = rw (trace_turn s p ts) (go (turn_of s p).outcome ref
 
     go : (o : Outcome) → (turn_of s p).outcome ≡ o → least rest.state ≡ least (turn_of s p).state + rounds_in rest.made
         → least (turned s p o rest).state ≡ least s + rounds_in (turned s p o rest).made
-    go (outcome.Made how) e ih = omega (arith, ih, turn_round s p how e, carries how e)
-    go (outcome.Refused k) e ih = omega arith
+    go (Ok how) e ih = omega (arith, ih, turn_round s p how e, carries how e)
+    go (Err k) e ih = omega arith
 
 -- so for every run, refused or not: of one that is refused as a whole there are none
 pub run_rounds : (s : State) (schedule : List ℕ) (allowance : ℕ) (log : List ℕ)
@@ -276,10 +275,10 @@ trace_tallies s (p ∷ ts) q = rw (trace_turn s p ts) (go (turn_of s p).outcome 
         × (waits_at rest.state q ≡ waits_at (turn_of s p).state q + waits_in rest.made q)
         → (moves_at (turned s p o rest).state q ≡ moves_at s q + moves_in (turned s p o rest).made q)
         × (waits_at (turned s p o rest).state q ≡ waits_at s q + waits_in (turned s p o rest).made q)
-    go (outcome.Made how) e ih =
+    go (Ok how) e ih =
         let one = rw e at (turn_tallies s p q) in
         (omega (arith, ih.0, one.0), omega (arith, ih.1, one.1))
-    go (outcome.Refused k) e ih = (omega arith, omega arith)
+    go (Err k) e ih = (omega arith, omega arith)
 
 -- so a run's own moves and waits are how far the state's tallies have risen, for every run from every state; one that is refused as a whole raises
 -- none

@@ -1,10 +1,9 @@
 -- The trace of a run: the turns that it makes, one by one, and where a refusal ends it (01, "Run").
-use Rattle.std.specs.Prelude.{List, [], ◌∷◌, ◌++◌, map, ℕ, eqb}
+use Rattle.std.specs.Prelude.{List, [], ◌∷◌, ◌++◌, map, ℕ, eqb, Ok, Err}
 use Rattle.bitset.specs.Choice.{pick}
 use Rattle.machine.specs.declared.State.{State}
 use Rattle.machine.specs.declared.Move.{Move}
-use Rattle.machine.specs.declared.Outcome.{Outcome}
-use Rattle.machine.specs.declared.Outcome.TheVariants.{Made, Refused}
+use Rattle.machine.specs.Answers.{Outcome}
 use Rattle.machine.specs.Setters.{task_at}
 use Rattle.machine.specs.Turn.{turn_of}
 
@@ -27,8 +26,8 @@ pub record Trace : Type 0 where
 
 -- one turn in front of a trace: "moved and waited go on, a refusal ends it"
 abbrev pub turned : State → ℕ → Outcome → Trace → Trace
-turned s p (Made how) rest = record { made = record { task = p; line = (task_at s p).line; how = how } ∷ rest.made; state = rest.state; stop = rest.stop }
-turned s p (Refused k) rest = record { made = []; state = s; stop = refusal p k }
+turned s p (Ok how) rest = record { made = record { task = p; line = (task_at s p).line; how = how } ∷ rest.made; state = rest.state; stop = rest.stop }
+turned s p (Err k) rest = record { made = []; state = s; stop = refusal p k }
 
 -- the trace of the turns ts from the state s
 unfoldable pub trace_of : State → List ℕ → Trace

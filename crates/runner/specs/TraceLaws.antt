@@ -1,11 +1,10 @@
 -- Laws of traces: what a trace has once more turns follow, what its turns keep, and where a refusal ends it.
-use Rattle.std.specs.Prelude.{◌≡◌, refl, ℕ, suc, ◌≤◌, ◌<◌, min, length, take, get_or}
+use Rattle.std.specs.Prelude.{◌≡◌, refl, ℕ, suc, ◌≤◌, ◌<◌, min, length, take, get_or, Ok, Err}
 use Rattle.std.proofs.Common.{sym, ap, ◌∙◌, arith, length-take}
 use mathlib.Core.List.{List, [], ◌∷◌, ◌++◌, map, append-nil}
 use Rattle.machine.specs.declared.State.{State}
 use Rattle.machine.specs.declared.Move.{Move}
-use Rattle.machine.specs.declared.Outcome.{Outcome}
-use Rattle.machine.specs.declared.Outcome.TheVariants.{Made, Refused}
+use Rattle.machine.specs.Answers.{Outcome}
 use Rattle.machine.specs.Setters.{task_at}
 use Rattle.machine.specs.Turn.{turn_of}
 use Rattle.machine.proofs.TurnLaws.{turn_constants}
@@ -45,13 +44,13 @@ trace_append s (p ∷ ts) us =
     more = trace_of rest.state us
 
     go : (o : Outcome) (e : Stop) → turned s p o (on_from e rest more) ≡ on_from (turned s p o (record { made = rest.made; state = rest.state; stop = e })).stop (turned s p o rest) (trace_of (turned s p o rest).state us)
-    go (Made how) nothing = refl
-    go (Made how) (refusal q k) = refl
-    go (Refused k) e = refl
+    go (Ok how) nothing = refl
+    go (Ok how) (refusal q k) = refl
+    go (Err k) e = refl
 
 -- one turn more, after turns that nothing stopped
 module _ (s : State) (ts : List ℕ) (p : ℕ) (on : (trace_of s ts).stop ≡ nothing) where
-  pub trace_made : (how : Move) → (turn_of (trace_of s ts).state p).outcome ≡ Made how
+  pub trace_made : (how : Move) → (turn_of (trace_of s ts).state p).outcome ≡ Ok how
       → trace_of s (ts ++ p ∷ []) ≡ record {
         made = (trace_of s ts).made ++ record { task = p; line = (task_at (trace_of s ts).state p).line; how = how } ∷ [];
         state = (turn_of (trace_of s ts).state p).state;
@@ -60,7 +59,7 @@ module _ (s : State) (ts : List ℕ) (p : ℕ) (on : (trace_of s ts).stop ≡ no
   unfolding trace_of
   trace_made how e = trace_append s ts (p ∷ []) ∙ rw (on, e)
 
-  pub trace_stopped : (k : ℕ) (us : List ℕ) → (turn_of (trace_of s ts).state p).outcome ≡ Refused k
+  pub trace_stopped : (k : ℕ) (us : List ℕ) → (turn_of (trace_of s ts).state p).outcome ≡ Err k
       → trace_of s (ts ++ p ∷ us) ≡ record { made = (trace_of s ts).made; state = (trace_of s ts).state; stop = refusal p k }
   unfolding trace_of
   trace_stopped k us e = trace_append s ts (p ∷ us) ∙ rw (on, e, append-nil (trace_of s ts).made)
@@ -78,8 +77,8 @@ made_all s (p ∷ ts) = go (turn_of s p).outcome (made_all (turn_of s p).state t
 
     go : (o : Outcome) → (rest.stop ≡ nothing → length rest.made ≡ length ts) → (turned s p o rest).stop ≡ nothing
         → length (turned s p o rest).made ≡ suc (length ts)
-    go (Made how) ih e = ap suc (ih e)
-    go (Refused k) ih e = absurd (refusal_stops p k e)
+    go (Ok how) ih e = ap suc (ih e)
+    go (Err k) ih e = absurd (refusal_stops p k e)
 
 pub made_few : (s : State) (ts : List ℕ) → length (trace_of s ts).made ≤ length ts
 unfolding trace_of
@@ -90,8 +89,8 @@ made_few s (p ∷ ts) = go (turn_of s p).outcome (made_few (turn_of s p).state t
     rest = trace_of (turn_of s p).state ts
 
     go : (o : Outcome) → length rest.made ≤ length ts → length (turned s p o rest).made ≤ suc (length ts)
-    go (Made how) ih = omega arith
-    go (Refused k) ih = omega arith
+    go (Ok how) ih = omega arith
+    go (Err k) ih = omega arith
 
 -- 01: "A run makes at most as many turns as its allowance": the smaller of allowance and length where no turn is refused
 pub turns_made : (s : State) (schedule : List ℕ) (allowance : ℕ) → (trace_of s (take allowance schedule)).stop ≡ nothing
@@ -107,8 +106,8 @@ trace_keeps P k s [] h = h
 trace_keeps P k s (p ∷ ts) h = go (turn_of s p).outcome (trace_keeps P k (turn_of s p).state ts (k s p h))
   where
     go : (o : Outcome) → P (trace_of (turn_of s p).state ts).state → P (turned s p o (trace_of (turn_of s p).state ts)).state
-    go (Made how) r = r
-    go (Refused k) r = h
+    go (Ok how) r = r
+    go (Err k) r = h
 
 -- so the number of tasks stays
 pub trace_n : (s : State) (ts : List ℕ) → (trace_of s ts).state.n ≡ s.n
@@ -120,7 +119,7 @@ trace_n s ts = trace_keeps (λ x. x.n ≡ s.n) (λ x p e. (turn_constants x p).n
 pub record StoppedAt (t : Trace) (ts : List ℕ) (p k : ℕ) : Type 0 where
   pub fewer : length t.made < length ts
   pub named : get_or ts (length t.made) 0 ≡ p
-  pub refused : (turn_of t.state p).outcome ≡ Refused k
+  pub refused : (turn_of t.state p).outcome ≡ Err k
 
 pub stopped_at : (s : State) (ts : List ℕ) (p k : ℕ) → (trace_of s ts).stop ≡ refusal p k → StoppedAt (trace_of s ts) ts p k
 unfolding trace_of
@@ -132,8 +131,8 @@ stopped_at s (q ∷ ts) p k e = go (turn_of s q).outcome refl e (stopped_at (tur
 
     go : (o : Outcome) → (turn_of s q).outcome ≡ o → (turned s q o rest).stop ≡ refusal p k → (rest.stop ≡ refusal p k → StoppedAt rest ts p k)
         → StoppedAt (turned s q o rest) (q ∷ ts) p k
-    go (Made how) eq st ih = let r = ih st in record { fewer = omega arith; named = r.named; refused = r.refused }
-    go (Refused j) eq st ih =
+    go (Ok how) eq st ih = let r = ih st in record { fewer = omega arith; named = r.named; refused = r.refused }
+    go (Err j) eq st ih =
         let a : q ≡ p = cc in
         let b : j ≡ k = cc in
         record { fewer = omega arith; named = a; refused = rw (← a, ← b) eq }
@@ -151,8 +150,8 @@ made_tasks s (p ∷ ts) = go (turn_of s p).outcome (made_tasks (turn_of s p).sta
 
     go : (o : Outcome) → map (λ (r : Row). r.task) rest.made ≡ take (length rest.made) ts
         → map (λ (r : Row). r.task) (turned s p o rest).made ≡ take (length (turned s p o rest).made) (p ∷ ts)
-    go (Made how) ih = ap (λ (l : List ℕ). p ∷ l) ih
-    go (Refused k) ih = refl
+    go (Ok how) ih = ap (λ (l : List ℕ). p ∷ l) ih
+    go (Err k) ih = refl
 
 -- they alone lead to the same state
 pub trace_stays : (s : State) (ts : List ℕ) → (trace_of s (take (length (trace_of s ts).made) ts)).state ≡ (trace_of s ts).state
@@ -165,8 +164,8 @@ trace_stays s (p ∷ ts) = go (turn_of s p).outcome refl (trace_stays (turn_of s
 
     go : (o : Outcome) → (turn_of s p).outcome ≡ o → (trace_of (turn_of s p).state (take (length rest.made) ts)).state ≡ rest.state
         → (trace_of s (take (length (turned s p o rest).made) (p ∷ ts))).state ≡ (turned s p o rest).state
-    go (Made how) e ih = rw e ih
-    go (Refused k) e ih = refl
+    go (Ok how) e ih = rw e ih
+    go (Err k) e ih = refl
 
 -- 02, P3: "In the progress rule a turn refused 13 isn't counted"
 pub stop_13 : (p : ℕ) → counted_stop (refusal p 13) ≡ []

@@ -3,10 +3,11 @@
 
 mod dispatch;
 
-ghost use Rattle.std.specs.Prelude.{◌≡◌, true, ◌*◌, ◌≤◌, ◌<◌, length, get_or, take, set};
+ghost use Rattle.std.specs.Prelude.{◌≡◌, true, ◌*◌, ◌≤◌, ◌<◌, length, get_or, take, set, IfOk};
+ghost use Rattle.reason.specs.Checked.{unit_of};
 ghost use Rattle.counts.specs.Counts.{least_among};
 ghost use Rattle.counts.specs.CountsLaws.{KeptOrRaised};
-ghost use Rattle.machine.specs.Range.{Valid, table_of};
+ghost use Rattle.machine.specs.Range.{table_of};
 ghost use Rattle.machine.specs.Least.{counts_of};
 ghost use Rattle.schedule.specs.Passes.{max_turns, all_tasks};
 ghost use Rattle.runner.specs.Trace.{trace_of};
@@ -15,19 +16,34 @@ ghost use Rattle.runner.specs.Run as defs;
 
 use counts::Least;
 use lines::Shared;
-use machine::{Outcome, State};
+use machine::valid::ValidState;
+use machine::{Move, State};
+use reason::{PlacedRefusal, Reason, Refusal};
 
-// How a run ended: all turns done; the allowance spent, with turns left; a turn refused, with its reason; or the whole run refused, with
-// its reason, and the place of the first turn that is no task for reason 9, else 0.
+// How a run ended: all turns done; the allowance spent, with turns left; a turn refused; or the whole run refused. No `Result` of two, since the
+// definitions `unstopped`, `ending_of` and `refused_run` name the four.
 #[derive(Clone, Copy)]
 pub enum Ending {
     Done,
     Spent,
-    Stopped(u8),
-    Refused(u8, usize),
+    Stopped(Refusal),
+    Refused(PlacedRefusal),
 }
 
-// A run's answer: the state, the ending, the turns made, the rounds that they closed, and each task's moves and waits.
+impl Ending {
+    // How a run ended that this turn's answer ended, or else would end so.
+    fn stopped_by(outcome: Result<Move, Refusal>, end: Ending) -> Ending
+        ensures { result ≡ defs.ending_by outcome end }
+    {
+        match outcome {
+            Ok(_) => end,
+            Err(refusal) => Ending::Stopped(refusal),
+        }
+    }
+}
+
+// A run's answer: the state, the ending, the turns made, the rounds that they closed, and each task's moves and waits, in two arrays as the
+// definition `ran_of` has them.
 #[derive(Clone, Copy)]
 pub struct Ran {
     pub state: State,
@@ -47,16 +63,15 @@ fn write_row(tail: &mut [u8], line: u8, moved: u8)
     tail[1] = moved;
 }
 
-// How far each tally has risen.
+// How far each tally has risen. A loop and no `array::from_fn`: as a closure it would need the laws of snapshot/proofs/FromFn.antt a second time,
+// since snapshot stands beside this crate.
 fn rises(before: [u32; 64], after: [u32; 64]) -> [u32; 64]
     requires { NoLess before after }
     ensures { result ≡ rise_of before after }
 {
     let mut all = [0u32; 64];
-    let mut q = 0;
-    while q < 64 {
+    for q in 0..64 {
         all[q] = after[q] - before[q];
-        q += 1;
     }
     all
 }
@@ -96,8 +111,7 @@ fn report(
     }
 }
 
-// Stores a task's count, and answers the least of the counts then. They are gone over only where the last task that stood at the least has
-// risen.
+// Stores a task's count, and answers the least of the counts then.
 fn store_count(counts: &mut [u32], least: Least, task: usize, next: u32) -> Least
     requires task_in_bounds { task < length counts.old }
     requires least_value { least ≡ least_among (λ q. get_or counts.old q 0) (length counts.old) }
@@ -107,42 +121,39 @@ fn store_count(counts: &mut [u32], least: Least, task: usize, next: u32) -> Leas
 {
     let count = counts[task];
     counts[task] = next;
-    if (next != count) & (count == least.count) {
-        return counts::risen(least, counts);
-    }
-    least
+    least.after(counts, count, next)
 }
 
-// Makes the first `turns` turns of the schedule, from a state in range, whose parents are lent as `table`: each turn's answer is taken apart,
+// Makes the turns of the schedule, from a state in range, whose parents are lent as `table`: each turn's answer is taken apart,
 // moved and waited go on, a refusal ends the run. The state stays where it is: a turn reads two tasks, and stores what its effect has, whether
 // it moves or waits (what waits has the task that stood there). Which word is written is not asked, only whether one is: most lines write none.
 // Both tallies are stored too: a move adds 1 and 0 to them, a wait 0 and 1. The counts are kept besides, as `counts`, with the least of them: the
-// rounds closed are how far that has risen.
+// rounds closed are how far that has risen. The steps of `State::turn`, and the fields of `State::shared`, stand here again, since both take the
+// state by value: a loop that called `turn` took 5.8 to 11 times the baseline, where the bars are 2.0 and 2.5 (docs/DECISIONS.md). The log goes by
+// places: what `chunks_exact_mut` promises tells nothing of the bytes that are written through it.
 fn turns(
-    mut state: State,
+    begin: ValidState,
     table: &[u8],
     schedule: &[u8],
-    turns: usize,
     end: Ending,
     counts: &mut [u32],
     log: &mut [u8],
 ) -> Ran
-    requires valid { Valid state }
-    requires table_value { table.now ≡ table_of state }
-    requires schedule_value { all_tasks state.n schedule.now ≡ true }
-    requires turns_in_bounds { (turns ≤ length schedule.now) × (turns ≤ max_turns) }
-    requires counts_value { counts.old ≡ take state.n (counts_of state) }
-    requires turns_in_bounds_2 { 2 * turns ≤ length log.old }
-    ensures value { result ≡ defs.ran_of (trace_of state (take turns schedule.now)) end }
-    ensures log_after { log.new ≡ defs.logged_of (trace_of state (take turns schedule.now)) log.old }
+    requires table_value { table.now ≡ table_of begin.state }
+    requires schedule_value { all_tasks begin.state.n schedule.now ≡ true }
+    requires schedule_len_bound { length schedule.now ≤ max_turns }
+    requires counts_value { counts.old ≡ take begin.state.n (counts_of begin.state) }
+    requires log_len_bound { 2 * length schedule.now ≤ length log.old }
+    ensures value { result ≡ defs.ran_of (trace_of begin.state schedule.now) end }
+    ensures log_after { log.new ≡ defs.logged_of (trace_of begin.state schedule.now) log.old }
 {
+    let mut state = begin.state;
     let old_moves = state.moves;
     let old_waits = state.waits;
     let mut least = counts::least_of(counts);
     let old = least.count;
-    let mut i = 0;
-    while i < turns {
-        let task = schedule[i] as usize;
+    for (i, &turn) in schedule.iter().enumerate() {
+        let task = turn as usize;
         let own = state.tasks[task];
         let looked = own.looked as usize;
         let seen = state.tasks[looked];
@@ -159,10 +170,10 @@ fn turns(
         let moves = state.moves[task];
         let waits = state.waits[task];
         let closed = least.closes(own.count, next.count);
-        let outcome = Outcome::of(act, closed, moves, waits);
-        let Outcome::Made(how) = outcome else {
-            let ending = Ending::Stopped(outcome.reason());
-            return report(state, ending, i, least.count - old, old_moves, old_waits);
+        let outcome = Move::of(act, closed, moves, waits);
+        let Ok(how) = outcome else {
+            let ended = Ending::stopped_by(outcome, end);
+            return report(state, ended, i, least.count - old, old_moves, old_waits);
         };
         let moved = how.number();
         write_row(&mut log[2 * i..], own.line, moved);
@@ -178,18 +189,18 @@ fn turns(
             let there = state.tasks[place];
             state.tasks[place] = write.task(there);
         }
-        i += 1;
     }
-    report(state, end, turns, least.count - old, old_moves, old_waits)
+    let made = schedule.len();
+    report(state, end, made, least.count - old, old_moves, old_waits)
 }
 
 // The answer of a run that is refused as a whole.
-fn refused(state: State, reason: u8, place: usize) -> Ran
-    ensures { result ≡ defs.refused_run state reason place }
+pub fn refused(state: State, refusal: PlacedRefusal) -> Ran
+    ensures { result ≡ defs.refused_run state refusal.refusal refusal.place }
 {
     Ran {
         state,
-        ending: Ending::Refused(reason, place),
+        ending: Ending::Refused(refusal),
         turns: 0,
         rounds: 0,
         moves: [0u32; 64],
@@ -197,38 +208,61 @@ fn refused(state: State, reason: u8, place: usize) -> Ran
     }
 }
 
-// Runs a schedule from a state, at most as many turns as the allowance, and writes two bytes a turn to the log. The state is looked at
-// once, before the first turn.
-pub fn run(state: State, schedule: &[u8], allowance: usize, log: &mut [u8]) -> Ran
-    ensures value { result ≡ defs.run_of state schedule.now allowance log.old }
-    ensures log_after { log.new ≡ defs.log_after state schedule.now allowance log.old }
+// The state as one in range, or why the whole run is refused, where the log has this room. The state is looked at here alone, before the first turn.
+// The test of unknown turns is that of `reader::check`; as a function it would need a definition of its own, for three lines.
+fn admitted(
+    state: State,
+    schedule: &[u8],
+    allowance: usize,
+    room: usize,
+) -> Result<ValidState, PlacedRefusal>
+    ensures told { unit_of result ≡ defs.admission state schedule.now allowance room }
+    ensures value { IfOk result (λ valid. valid.state ≡ state) }
 {
-    let reason = state.check();
-    if reason != 0 {
-        return refused(state, reason, 0);
-    }
+    let valid = state.valid()?;
     if 65536 < schedule.len() {
-        return refused(state, 8, 0);
+        return Err(Reason::ScheduleLength.into());
     }
     let place = schedule::unknown_at(state.n as usize, schedule);
     if place < schedule.len() {
-        return refused(state, 9, place);
+        return Err(PlacedRefusal::of_turn(place));
     }
-    let count = bitset::smaller(allowance, schedule.len());
-    if log.len() < 2 * count {
-        return refused(state, 10, 0);
+    if room < 2 * allowance.min(schedule.len()) {
+        return Err(Reason::Room.into());
     }
+    Ok(valid)
+}
+
+// Makes the first turns of a schedule, as many as the allowance, of a run that is not refused as a whole.
+fn go(begin: ValidState, schedule: &[u8], allowance: usize, log: &mut [u8]) -> Ran
+    requires admitted { defs.run_reason begin.state schedule.now allowance (length log.old) ≡ 0 }
+    ensures value { result ≡ defs.run_of begin.state schedule.now allowance log.old }
+    ensures log_after { log.new ≡ defs.log_after begin.state schedule.now allowance log.old }
+{
+    let count = allowance.min(schedule.len());
+    let end = ended(allowance, schedule.len());
+    let state = begin.state;
     let parents = state.parents;
     let n = state.n as usize;
-    let end = ended(allowance, schedule.len());
     let mut counts = state.counts();
     turns(
-        state,
+        begin,
         &parents[..n],
-        schedule,
-        count,
+        &schedule[..count],
         end,
         &mut counts[..n],
         log,
     )
+}
+
+// Runs a schedule from a state, at most as many turns as the allowance, and writes two bytes a turn to the log. The four stay parameters, here and
+// in the helpers: the clauses of `run` and the definitions `run_of` and `log_after` take them so.
+pub fn run(state: State, schedule: &[u8], allowance: usize, log: &mut [u8]) -> Ran
+    ensures value { result ≡ defs.run_of state schedule.now allowance log.old }
+    ensures log_after { log.new ≡ defs.log_after state schedule.now allowance log.old }
+{
+    match admitted(state, schedule, allowance, log.len()) {
+        Ok(valid) => go(valid, schedule, allowance, log),
+        Err(refusal) => refused(state, refusal),
+    }
 }

@@ -6,7 +6,8 @@ use native.Mathlib.Omega.{arith}
 use borrow.Author.Tests.{eq-eqb, ne_eqb}
 use lib.ListN.{length, get_or, drop, drop_of_length-le}
 use Rattle.bitset.specs.Set.{with_of, all_of}
-use Rattle.schedule.specs.declared.answer.Passes.TheVariants.{Count, Refused}
+use Rattle.std.specs.Prelude.{Ok, Err}
+use Rattle.reason.specs.Placed.{placed}
 use Rattle.schedule.specs.Passes.{passes_from, passes_of, unknown_at, count_answer}
 use Rattle.schedule.proofs.Walk.{Seen, seen_none, seen_more, unknown_here, unknown_later, ends_here, goes_on_lem}
 
@@ -20,13 +21,13 @@ pub record Counting (n : ℕ) (ts : List ℕ) (seen count i : ℕ) : Type 0 wher
   pub passes : length (passes_of n ts) ≡ count + length (passes_from n since (drop i ts))
 
 module _ {n : ℕ} {ts : List ℕ} {seen count i : ℕ} (w : Counting n ts seen count i) where
-  pub refused : i < length ts → n ≤ get_or ts i 0 → Refused 9 i ≡ count_answer n ts
+  pub refused : i < length ts → n ≤ get_or ts i 0 → Err (placed 9 i) ≡ count_answer n ts
   unfolding count_answer
   refused l u =
       let e : unknown_at n ts ≡ i = omega (arith, w.unknown, unknown_here n ts i l u) in
       rw (e, ne_eqb i (length ts) (λ q. omega arith))
 
-  pub counted : length ts ≤ i → Count count ≡ count_answer n ts
+  pub counted : length ts ≤ i → Ok count ≡ count_answer n ts
   unfolding count_answer unknown_at passes_from
   counted l =
       let none = drop_of_length-le ts {i = i} l in

@@ -58,6 +58,8 @@ seen_all {n} {since} {seen} h s = go (names_all n since) refl
     go true e = eq-eqb seen (all_of n) (bit_ext 64 seen (all_of n) s.fits (all_lt n) (λ k l. digit e k (dec_lt k n)))
     go false e = ne_eqb seen (all_of n) (λ w. true≢false (sym (stands_named n since (named w)) ∙ e))
 
+-- ---- past the end
+
 pub all_tasks_end : (n : ℕ) (ts : List ℕ) (i : ℕ) → length ts ≤ i → all_tasks n (drop i ts) ≡ true
 unfolding unknown_at
 all_tasks_end n ts i l = rw (drop_of_length-le ts {i = i} l)

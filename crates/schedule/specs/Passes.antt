@@ -1,10 +1,10 @@
 -- The passes of a schedule, and what the call `passes` answers (01, "What else is asked of the library" and "Reasons").
-use Rattle.std.specs.Prelude.{Bool, List, [], ◌∷◌, ◌++◌, ℕ, zero, suc, ◌+◌, ◌*◌, eqb, leb, ltb, length, drop}
+use Rattle.std.specs.Prelude.{Bool, List, [], ◌∷◌, ◌++◌, ℕ, zero, suc, ◌+◌, ◌*◌, eqb, leb, ltb, length, drop, Result, Ok, Err}
 use Rattle.bitset.specs.Choice.{pick}
 use Rattle.bitset.specs.Tasks.{is_count}
+use Rattle.reason.specs.declared.PlacedRefusal.{PlacedRefusal}
+use Rattle.reason.specs.Placed.{placed}
 use Rattle.schedule.specs.Stretch.{names_all}
-use Rattle.schedule.specs.declared.answer.Passes.{Passes}
-use Rattle.schedule.specs.declared.answer.Passes.TheVariants.{Count, Refused}
 
 -- "A pass ends at the first turn by which every task has been named since the pass began; the next begins there."
 -- The passes of the turns still to come, where `since` are the turns since the pass began. "A tail that is no whole pass gets no pair."
@@ -38,43 +38,43 @@ abbrev pub all_tasks : ℕ → List ℕ → Bool
 all_tasks n ts = eqb (unknown_at n ts) (length ts)
 
 -- the answer to a call that 3 and 8 let pass and whose pairs have room
-unfoldable pub count_answer : ℕ → List ℕ → Passes
-count_answer n ts = pick (all_tasks n ts) (Count (length (passes_of n ts))) (Refused 9 (unknown_at n ts))
+unfoldable pub count_answer : ℕ → List ℕ → Result ℕ PlacedRefusal
+count_answer n ts = pick (all_tasks n ts) (Ok (length (passes_of n ts))) (Err (placed 9 (unknown_at n ts)))
 
 -- "Passes 3, 8, 9, 10"; 3: "N isn't 1 to 64"; 10: a "pair list under two numbers a pass". The list has `room` numbers.
-unfoldable pub passes_answer : ℕ → List ℕ → ℕ → Passes
+unfoldable pub passes_answer : ℕ → List ℕ → ℕ → Result ℕ PlacedRefusal
 passes_answer n ts room =
     pick (is_count n)
     (pick (leb (length ts) max_turns)
     (pick (all_tasks n ts)
     (pick (leb (2 * length (passes_of n ts)) room)
-    (Count (length (passes_of n ts)))
-    (Refused 10 0))
-    (Refused 9 (unknown_at n ts)))
-    (Refused 8 0))
-    (Refused 3 0)
+    (Ok (length (passes_of n ts)))
+    (Err (placed 10 0)))
+    (Err (placed 9 (unknown_at n ts))))
+    (Err (placed 8 0)))
+    (Err (placed 3 0))
 
 -- the paper's numbers of an answer: the reason, 0 if accepted; the place of 9; the number of passes
-abbrev pub passes_reason : Passes → ℕ
-passes_reason (Count k) = 0
-passes_reason (Refused reason at) = reason
+abbrev pub passes_reason : Result ℕ PlacedRefusal → ℕ
+passes_reason (Ok k) = 0
+passes_reason (Err r) = r.refusal
 
-abbrev pub passes_place : Passes → ℕ
-passes_place (Count k) = 0
-passes_place (Refused reason at) = at
+abbrev pub passes_place : Result ℕ PlacedRefusal → ℕ
+passes_place (Ok k) = 0
+passes_place (Err r) = r.place
 
-abbrev pub passes_count : Passes → ℕ
-passes_count (Count k) = k
-passes_count (Refused reason at) = 0
+abbrev pub passes_count : Result ℕ PlacedRefusal → ℕ
+passes_count (Ok k) = k
+passes_count (Err r) = 0
 
 -- the list with the pairs written to it. "Numbers after the last pair don't change"
 abbrev pub with_pairs : ℕ → List ℕ → List ℕ → List ℕ
 with_pairs n ts pairs = pairs_from 0 (passes_of n ts) ++ drop (2 * length (passes_of n ts)) pairs
 
 -- the list after an answer; a refused call "writes to no buffer"
-abbrev pub pairs_by : Passes → ℕ → List ℕ → List ℕ → List ℕ
-pairs_by (Count k) n ts pairs = with_pairs n ts pairs
-pairs_by (Refused k at) n ts pairs = pairs
+abbrev pub pairs_by : Result ℕ PlacedRefusal → ℕ → List ℕ → List ℕ → List ℕ
+pairs_by (Ok k) n ts pairs = with_pairs n ts pairs
+pairs_by (Err r) n ts pairs = pairs
 
 unfoldable pub pairs_after : ℕ → List ℕ → List ℕ → List ℕ
 pairs_after n ts pairs = pairs_by (passes_answer n ts (length pairs)) n ts pairs

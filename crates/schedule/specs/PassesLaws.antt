@@ -1,12 +1,12 @@
 -- Laws of the passes: no cutting of a schedule into stretches that each name every task has more of them, and the passes are one
 -- that has as many. And of the first turn that is no task.
-use Rattle.std.specs.Prelude.{◌≡◌, refl, ◌↔◌, Bool, true, false, ℕ, zero, suc, ◌*◌, ◌≤◌, ◌<◌, ltb, length, take, get_or}
+use Rattle.std.specs.Prelude.{◌≡◌, refl, ◌↔◌, Bool, true, false, ℕ, zero, suc, ◌*◌, ◌≤◌, ◌<◌, ltb, length, take, get_or, Ok, Err}
 use Rattle.std.proofs.Common.{sym, ap, ◌∙◌, true≢false, arith, length-append, ltb-true, ltb-false, eqb-true, eq-eqb, le-leb}
 use mathlib.Core.List.{List, [], ◌∷◌, ◌++◌, append_assoc, append-nil, flatten, map}
 use Rattle.std.proofs.Math.Decide.{dec_lt}
 use Rattle.std.proofs.Math.Seq.{append_snoc, take-append-add}
 use Rattle.bitset.specs.Choice.{pick}
-use Rattle.schedule.specs.declared.answer.Passes.TheVariants.{Count, Refused}
+use Rattle.reason.specs.Placed.{placed}
 use Rattle.schedule.specs.Stretch.{names_all, EachNamesAll, CutInto}
 use Rattle.schedule.specs.StretchLaws.{empty_unnamed, Covers, covers_named, covers_more, covers_longer}
 use Rattle.schedule.specs.Passes.{passes_from, passes_of, max_turns, unknown_at, all_tasks, passes_answer}
@@ -192,7 +192,7 @@ passes_few n since (t ∷ ts) =
 
 -- where 3, 8 and 10 refuse nothing, 9 alone is left
 pub passes_answered : (n : ℕ) (ts : List ℕ) (room : ℕ) → 1 ≤ n → n ≤ 64 → length ts ≤ max_turns → 2 * length (passes_of n ts) ≤ room
-    → passes_answer n ts room ≡ pick (all_tasks n ts) (Count (length (passes_of n ts))) (Refused 9 (unknown_at n ts))
+    → passes_answer n ts room ≡ pick (all_tasks n ts) (Ok (length (passes_of n ts))) (Err (placed 9 (unknown_at n ts)))
 unfolding passes_answer
 passes_answered n ts room some few short wide =
     rw (le-leb 1 n some, le-leb n 64 few, le-leb (length ts) max_turns short, le-leb (2 * length (passes_of n ts)) room wide)

@@ -1,6 +1,6 @@
 -- Laws of a session: after every list of calls, the list keeps the state that the same calls of the library lead to, which is a reached one; each call answers what that of the
 -- library does; and as many passes as `limit` tells raise the least count in the list.
-use Rattle.std.specs.Prelude.{◌≡◌, refl, Bool, true, false, ◌||◌, ◌≢◌, ℕ, ◌≤◌, ◌<◌, eqb, length, take}
+use Rattle.std.specs.Prelude.{◌≡◌, refl, Bool, true, false, ◌||◌, ◌≢◌, ℕ, ◌≤◌, ◌<◌, eqb, length, take, Ok, Err}
 use Rattle.std.proofs.Math.Path.{sym, ap}
 use Rattle.std.proofs.Common.{◌∙◌, subst, arith, length-append, length-take-le, ne_eqb}
 use mathlib.Core.List.{List, [], ◌∷◌, ◌++◌, append-nil}
@@ -9,10 +9,8 @@ use Rattle.bitset.specs.Choice.{pick}
 use Rattle.bitset.specs.ChoiceLaws.{by_test}
 use Rattle.schedule.specs.Stretch.{CutInto}
 use Rattle.machine.specs.declared.State.{State}
-use Rattle.machine.specs.declared.Outcome.{Outcome}
-use Rattle.machine.specs.declared.Outcome.TheVariants.{Made, Refused}
+use Rattle.machine.specs.Answers.{Outcome, Ready}
 use Rattle.machine.specs.declared.Turned.{Turned}
-use Rattle.machine.specs.declared.Ready.{Ready}
 use Rattle.machine.specs.Fresh.{Inputs, fresh_reason, fresh_of}
 use Rattle.machine.specs.FreshLaws.{fresh_reason_lem, fresh_accepted}
 use Rattle.machine.specs.Least.{least}
@@ -28,8 +26,7 @@ use Rattle.playback.specs.Playback.{play_of, verdict_reason}
 use Rattle.playback.specs.PlaybackLaws.{play_unrefused}
 use Rattle.rows.specs.Rows.{turn_room, task_room, is_refused, listed_of, listed_log, turn_rows_after, task_rows_after}
 use Rattle.rows.specs.RowsLaws.{told_refused, listed_roomy, listed_short, short_turns, short_not_11}
-use Rattle.snapshot.specs.declared.Loaded.{Loaded}
-use Rattle.snapshot.specs.Snapshot.{size, saved_to, load_of}
+use Rattle.snapshot.specs.Snapshot.{Loaded, size, saved_to, load_of}
 use Rattle.snapshot.specs.RoundTrip.{saved_loads, saved_room, has_room, load_first}
 use Rattle.numbers.specs.Numbers.{turn_number, turn_closed}
 use Rattle.guarantee.specs.Calls as calls
@@ -73,8 +70,8 @@ module _ (list : List ℕ) (s : State) (keeps : Keeps list s) (r : Reached s) wh
     where
       -- a refusal leaves the state; no reason is 0
       still : (o : Outcome) → (turn_of s p).outcome ≡ o → reason_number o ≢ 0 → (turn_of s p).state ≡ s
-      still (Made how) e ne = absurd (ne refl)
-      still (Refused k) e ne = refused_still s p k e
+      still (Ok how) e ne = absurd (ne refl)
+      still (Err k) e ne = refused_still s p k e
 
       go : (o : Outcome) → (turn_of s p).outcome ≡ o → Dec (reason_number o ≡ 0) → Keeps (turn_list list p) (turn_of s p).state
       go o e (yes z) =
@@ -140,12 +137,12 @@ module _ (list : List ℕ) (s : State) (keeps : Keeps list s) (r : Reached s) wh
       counts reason = pick (eqb reason 0 || eqb reason 11) (p ∷ []) []
 
       go : (o : Outcome) → (turn_of s p).outcome ≡ o → counts (reason_number o) ≡ counted_all s (calls.turn p ∷ [])
-      go (Made how) e = sym (counted_made s p [] how e ∙ ap (λ (l : List ℕ). p ∷ l) (counted_none (turn_of s p).state))
-      go (Refused k) e = split (ℕ_discrete k 11)
+      go (Ok how) e = sym (counted_made s p [] how e ∙ ap (λ (l : List ℕ). p ∷ l) (counted_none (turn_of s p).state))
+      go (Err k) e = split (ℕ_discrete k 11)
         where
           split : Dec (k ≡ 11) → counts k ≡ counted_all s (calls.turn p ∷ [])
-          split (yes is) = ap counts is ∙ sym (counted_11 s p [] (e ∙ ap Refused is) ∙ ap (λ (l : List ℕ). p ∷ l) (counted_none s))
-          split (no ne) = rw (ne_eqb k 0 (λ z. never_0 s p (e ∙ ap Refused z)), ne_eqb k 11 ne) (sym (uncounted s p [] k ne e ∙ counted_none s))
+          split (yes is) = ap counts is ∙ sym (counted_11 s p [] (e ∙ ap Err is) ∙ ap (λ (l : List ℕ). p ∷ l) (counted_none s))
+          split (no ne) = rw (ne_eqb k 0 (λ z. never_0 s p (e ∙ ap Err z)), ne_eqb k 11 ne) (sym (uncounted s p [] k ne e ∙ counted_none s))
 
   run_counted : (schedule : List ℕ) (allowance : ℕ) (log : List ℕ) (ok : Bool)
       → counted_turns (numbers_of (listed_of s schedule allowance log ok)) schedule ≡ counted_all s (pick ok (calls.run schedule allowance log ∷ []) [])
@@ -319,6 +316,11 @@ module _ (list : List ℕ) (s : State) (k : Keeps list s) (r : Reached s) where
   pub turn_pin : (p : ℕ) → (let a = turn_told list p in let o = (turn_of s p).outcome in
       (a.reason ≡ reason_number o) × (a.moved ≡ turn_number o) × (a.closed ≡ turn_closed o))
   turn_pin p = let e = step_answers list s k r (turn p) in (cc, cc, cc)
+
+  -- and a turn's answer among those of a session tells all three
+  pub turn_answer_pin : (p : ℕ)
+      → answer list (turn p) ≡ words.turned (reason_number (turn_of s p).outcome) (turn_number (turn_of s p).outcome) (turn_closed (turn_of s p).outcome)
+  turn_answer_pin p = step_answers list s k r (turn p)
 
   module _ (schedule : List ℕ) (allowance : ℕ) (log : List ℕ) where
     pub resume_pin : (tasks : List ℕ) → (let a = resume_told list schedule allowance log tasks in let ok = task_room s (length tasks) in

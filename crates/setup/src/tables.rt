@@ -1,77 +1,79 @@
 // The tables of parents, of starts and of work lengths. specs/Tables.antt defines each. A table is refused by its length before any of its entries is
-// looked at: a loop over entries runs only where there are n of them.
-ghost use Rattle.std.specs.Prelude.{◌≡◌};
+// looked at: a loop over entries runs only where there are n of them. The kind is a number, since `parents_reason` and `starts_reason` take any.
+ghost use Rattle.std.specs.Prelude.{◌≡◌, ◌&&◌, ◌||◌, eqb, get_or, length};
+ghost use Rattle.reason.specs.Checked.{checked};
 ghost use Rattle.setup.specs.Tables as defs;
 
-use parents::Checked;
+use kind::Kind;
+use reason::{Reason, Refusal};
 
 // Whether every entry of a table is `low` or more, and below the bound.
 pub fn all_within(low: usize, bound: usize, table: &[u8]) -> bool
     ensures { result ≡ defs.all_within low bound table.now }
 {
-    let mut ok = true;
-    let mut i = 0;
-    while i < table.len() {
-        let x = table[i] as usize;
-        ok = ok & ((low <= x) & (x < bound));
-        i += 1;
-    }
-    ok
+    table
+        .iter()
+        .all(|&x| (low <= x as usize) & ((x as usize) < bound))
 }
 
-// 0, or the reason that refuses the table of parents: 5 or 6.
-pub fn parents_reason(kind: usize, n: usize, parents: &[u8]) -> u8
-    ensures { result ≡ defs.parents_reason kind n parents.now }
+// Whether a table is absent, or has n entries, each `low` or more and below the bound.
+fn absent_or_within(n: usize, low: usize, bound: usize, table: &[u8]) -> bool
+    ensures { result ≡ (eqb (length table.now) 0 || (eqb (length table.now) n && defs.all_within low bound table.now)) }
 {
-    if kind != 3 {
-        return if parents.len() == 0 { 0 } else { 5 };
-    }
-    match parents::check(parents, n) {
-        Checked::Accepted => 0,
-        Checked::WrongLength => 5,
-        Checked::NotLower => 6,
-    }
+    table.is_empty() || (table.len() == n && all_within(low, bound, table))
 }
 
-// 0, or the reason that refuses the table of starts: 12. Only kind 0 takes one.
-pub fn starts_reason(kind: usize, n: usize, starts: &[u8]) -> u8
-    ensures { result ≡ defs.starts_reason kind n starts.now }
+// The reason that refuses the table of parents, if one does: 5 or 6.
+pub fn parents_reason(kind: usize, n: usize, parents: &[u8]) -> Result<(), Refusal>
+    ensures { result ≡ checked (defs.parents_reason kind n parents.now) }
 {
-    if starts.len() == 0 {
-        return 0;
+    if kind == Kind::Tree.number() {
+        return parents::check(parents, n);
     }
-    if kind != 0 {
-        return 12;
+    if !parents.is_empty() {
+        return Err(Reason::TableLength.into());
     }
-    if starts.len() != n {
-        return 12;
-    }
-    if all_within(0, n, starts) { 0 } else { 12 }
+    Ok(())
 }
 
-// 0, or the reason that refuses the table of work lengths: 15. Every kind takes one.
-pub fn works_reason(n: usize, works: &[u8]) -> u8
-    ensures { result ≡ defs.works_reason n works.now }
+// The reason that refuses the table of starts, if one does: 12. Only the symmetric kind takes one.
+pub fn starts_reason(kind: usize, n: usize, starts: &[u8]) -> Result<(), Refusal>
+    ensures { result ≡ checked (defs.starts_reason kind n starts.now) }
 {
-    if works.len() == 0 {
-        return 0;
+    let taken = starts.is_empty() || kind == Kind::Symmetric.number();
+    if !taken || !absent_or_within(n, 0, n, starts) {
+        return Err(Reason::Starts.into());
     }
-    if works.len() != n {
-        return 15;
+    Ok(())
+}
+
+// The reason that refuses the table of work lengths, if one does: 15. Every kind takes one.
+pub fn works_reason(n: usize, works: &[u8]) -> Result<(), Refusal>
+    ensures { result ≡ checked (defs.works_reason n works.now) }
+{
+    if !absent_or_within(n, 1, 256, works) {
+        return Err(Reason::Works.into());
     }
-    if all_within(1, 256, works) { 0 } else { 15 }
+    Ok(())
+}
+
+// The entry of a task; past the table the default.
+fn entry_or(table: &[u8], q: usize, default: u8) -> u8
+    ensures { result ≡ get_or table.now q default }
+{
+    table.get(q).copied().unwrap_or(default)
 }
 
 // The start of a task; 0 past the table.
 pub fn start_of(starts: &[u8], q: usize) -> u8
     ensures { result ≡ defs.start_of starts.now q }
 {
-    if q < starts.len() { starts[q] } else { 0 }
+    entry_or(starts, q, 0)
 }
 
 // The work length of a task; 1 past the table.
 pub fn work_of(works: &[u8], q: usize) -> u8
     ensures { result ≡ defs.work_of works.now q }
 {
-    if q < works.len() { works[q] } else { 1 }
+    entry_or(works, q, 1)
 }

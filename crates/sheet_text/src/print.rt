@@ -1,55 +1,39 @@
-// The printers of the table and of a refusal: each writes to the page from a place on, and answers the place after what it wrote.
+// The printers of the table and of a refusal: each prints on the page, after what is printed there. They use no `write!`: what it writes is promised
+// only where all of it is written, and `Puts` says also what a short page gets.
 ghost use Rattle.std.specs.Prelude.{◌≡◌, ◌-◌, ◌≤◌};
-ghost use Rattle.text.specs.Page.{Prints};
+ghost use Rattle.text.specs.Page.{Puts};
 ghost use Rattle.machine.specs.Least.{least_up_to};
 ghost use Rattle.sheet_text.specs.Print.{row_with, rows_by, table_with, refusal_of};
 ghost use Rattle.sheet_text.specs.Steps.{ran_row};
 
 use machine::State;
+use reason::{PlacedRefusal, Reason};
 use runner::Ran;
-use text::print;
+use text::print::Page;
 
 // The line of a task.
-fn row(
-    page: &mut [u8],
-    at: usize,
-    task: usize,
-    line: u8,
-    count: u32,
-    moves: u32,
-    waits: u32,
-) -> usize
-    ensures { Prints at (row_with task line count moves waits) page.old result page.new }
+fn row(page: &mut Page, task: usize, line: u8, count: u32, moves: u32, waits: u32)
+    ensures { Puts (row_with task line count moves waits) page.old page.new }
 {
-    let a = print::number(page, at, task);
-    let b = print::spaced(page, a, line as usize);
-    let c = print::spaced(page, b, count as usize);
-    let d = print::spaced(page, c, moves as usize);
-    let e = print::spaced(page, d, waits as usize);
-    print::byte(page, e, 10)
+    page.number(task);
+    page.spaced(line as usize);
+    page.spaced(count as usize);
+    page.spaced(moves as usize);
+    page.spaced(waits as usize);
+    page.byte(b'\n');
 }
 
-// The lines of the tasks below n.
-fn rows(page: &mut [u8], at: usize, ran: Ran, n: usize) -> usize
+// The lines of the tasks below n. By index, since three arrays are read of each task; and each function here asks for the bound of n, since neither
+// a `Ran` nor its state has one in its type.
+fn rows(page: &mut Page, ran: Ran, n: usize)
     requires { n ≤ 64 }
-    ensures { Prints at (rows_by (ran_row ran) n) page.old result page.new }
+    ensures { Puts (rows_by (ran_row ran) n) page.old page.new }
 {
     let state = ran.state;
-    let mut next = at;
-    let mut q = 0;
-    while q < n {
-        next = row(
-            page,
-            next,
-            q,
-            state.tasks[q].line,
-            state.tasks[q].count,
-            ran.moves[q],
-            ran.waits[q],
-        );
-        q += 1;
+    for q in 0..n {
+        let task = state.tasks[q];
+        row(page, q, task.line, task.count, ran.moves[q], ran.waits[q]);
     }
-    next
 }
 
 // The least count of the tasks below n.
@@ -63,30 +47,29 @@ fn least(state: State, n: usize) -> u32
 }
 
 // The whole table: the lines of the tasks below n, the passes and the least count.
-pub(crate) fn table(page: &mut [u8], ran: Ran, n: usize, passes: usize) -> usize
+pub(crate) fn table(page: &mut Page, ran: Ran, n: usize, passes: usize)
     requires { (1 ≤ n) × (n ≤ 64) }
-    ensures { Prints 0 (table_with (rows_by (ran_row ran) n) passes (least_up_to ran.state (n - 1))) page.old result page.new }
+    ensures { Puts (table_with (rows_by (ran_row ran) n) passes (least_up_to ran.state (n - 1))) page.old page.new }
 {
     let state = ran.state;
-    let a = print::word(page, 0, b"task line count moves waits\n");
-    let b = rows(page, a, ran, n);
-    let c = print::word(page, b, b"passes");
-    let d = print::spaced(page, c, passes);
-    let e = print::word(page, d, b" least");
-    let f = print::spaced(page, e, least(state, n) as usize);
-    print::byte(page, f, 10)
+    page.word(b"task line count moves waits\n");
+    rows(page, ran, n);
+    page.word(b"passes");
+    page.spaced(passes);
+    page.word(b" least");
+    page.spaced(least(state, n) as usize);
+    page.byte(b'\n');
 }
 
 // The line of a refusal; the place is printed for reason 9 alone.
-pub(crate) fn refusal(page: &mut [u8], reason: usize, place: usize) -> usize
-    ensures { Prints 0 (refusal_of reason place) page.old result page.new }
+pub(crate) fn refusal(page: &mut Page, refused: PlacedRefusal)
+    ensures { Puts (refusal_of refused.refusal refused.place) page.old page.new }
 {
-    let a = print::word(page, 0, b"refused");
-    let b = print::spaced(page, a, reason);
-    if reason != 9 {
-        return print::byte(page, b, 10);
+    page.word(b"refused");
+    page.spaced(refused.refusal.number() as usize);
+    if refused.refusal.is_for(Reason::Task) {
+        page.word(b" place");
+        page.spaced(refused.place);
     }
-    let c = print::word(page, b, b" place");
-    let d = print::spaced(page, c, place);
-    print::byte(page, d, 10)
+    page.byte(b'\n');
 }

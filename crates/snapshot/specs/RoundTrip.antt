@@ -15,8 +15,7 @@ use Rattle.lines.specs.Setters.{zero_task}
 use Rattle.machine.specs.declared.State.{State}
 use Rattle.machine.specs.Setters.{task_at, moves_at, waits_at}
 use Rattle.machine.specs.Fresh.{zero_state}
-use Rattle.snapshot.specs.declared.Loaded.{Loaded}
-use Rattle.snapshot.specs.Snapshot.{task_numbers, tasks_numbers, head_numbers, parent_numbers, numbers_of, size, room_reason, saved_to, task_place, number_in, task_from, state_from, most_in, fit_from, tasks_fit, fits, load_reason, load_of}
+use Rattle.snapshot.specs.Snapshot.{Loaded, task_numbers, tasks_numbers, head_numbers, parent_numbers, numbers_of, size, room_reason, saved_to, task_place, number_in, task_from, state_from, most_in, fit_from, tasks_fit, fits, load_reason, load_of}
 use Rattle.snapshot.specs.SnapshotLaws.{length_numbers, load_fits}
 
 -- what the types of a state's fields ensure: 64 entries in each array, and numbers that fit

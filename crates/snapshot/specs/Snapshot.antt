@@ -1,12 +1,12 @@
 -- A state as a list of numbers, which a caller can keep: 1,029 of them, five of the state, 64 parents, and fifteen for each of 64 tasks.
-use Rattle.std.specs.Prelude.{Bool, true, ◌&&◌, ◌||◌, List, [], ◌∷◌, ◌++◌, ℕ, zero, suc, ◌+◌, ◌*◌, eqb, leb, length, get_or, drop}
+use Rattle.std.specs.Prelude.{Bool, true, ◌&&◌, ◌||◌, List, [], ◌∷◌, ◌++◌, ℕ, zero, suc, ◌+◌, ◌*◌, eqb, leb, length, get_or, drop, Result}
 use Rattle.bitset.specs.Choice.{pick}
 use Rattle.bitset.specs.Table.{table}
+use Rattle.reason.specs.Checked.{answered}
 use Rattle.lines.specs.declared.Task.{Task}
 use Rattle.machine.specs.declared.State.{State}
 use Rattle.machine.specs.Setters.{task_at, moves_at, waits_at}
 use Rattle.machine.specs.Fresh.{zero_state}
-use Rattle.snapshot.specs.declared.Loaded.{Loaded}
 
 -- ---- from a state to its numbers
 
@@ -114,9 +114,18 @@ fits list = head_fits list && tasks_fit list 64
 abbrev pub load_reason : List ℕ → ℕ
 load_reason list = pick (leb size (length list)) (pick (fits list) 0 7) 10
 
+-- what a list is taken for: the state and 0, or the state whose fields are all 0 and the reason that refused the list
+pub record Loaded : Type 0 where
+  pub state : State
+  pub reason : ℕ
+
 unfoldable pub load_of : List ℕ → Loaded
 load_of list =
     record {
       state = pick (eqb (load_reason list) 0) (state_from list) zero_state;
       reason = load_reason list;
     }
+
+-- the same as the code answers it
+abbrev pub load_answer : Loaded → Result State ℕ
+load_answer l = answered l.state l.reason

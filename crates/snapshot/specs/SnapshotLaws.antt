@@ -116,7 +116,7 @@ module _ (s : State) (list : List ℕ) where
   pub write_parents : paste headed 5 (parent_numbers s) (length (parent_numbers s)) ≡ tabled
   write_parents = paste_front (head_numbers s) (parent_numbers s) list 5 refl ∙ rw table_64
 
-  before : length (head_numbers s ++ parent_numbers s) ≡ 69
+  pub before : length (head_numbers s ++ parent_numbers s) ≡ 69
   before = omega (arith, length-append (head_numbers s) (parent_numbers s), table_64)
 
   pub write_all : (take 69 tabled ++ tasks_numbers s 64) ++ drop size tabled ≡ numbers_of s ++ drop size list

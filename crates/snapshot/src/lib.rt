@@ -4,14 +4,16 @@
 pub mod load;
 pub mod save;
 
-use machine::State;
+// For how many tasks a state has room.
+const TASKS: usize = 64;
+
+// How many numbers a state has beside its parents and tasks, and how many each task has.
+const OWN: usize = 5;
+
+const PER_TASK: usize = 15;
+
+// Where the numbers of the tasks begin: after the parents.
+const FIRST_TASK: usize = OWN + TASKS;
 
 // How many numbers a state has.
-pub const SIZE: usize = 1029;
-
-// What `load` answers: the state and 0, or the reason that refused the list and the state whose fields are all 0.
-#[derive(Clone, Copy)]
-pub struct Loaded {
-    pub state: State,
-    pub reason: u8,
-}
+pub const SIZE: usize = FIRST_TASK + PER_TASK * TASKS;

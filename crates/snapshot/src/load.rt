@@ -1,192 +1,140 @@
 // From numbers to the state.
-ghost use Rattle.std.specs.Prelude.{◌≡◌, true, ◌+◌, ◌≤◌, ◌<◌, length, get_or};
+ghost use Rattle.std.specs.Prelude.{◌≡◌, true, ◌+◌, ◌≤◌, ◌<◌, false, get_or, MatchOption};
 ghost use Rattle.bitset.specs.Table.{table};
-ghost use Rattle.machine.specs.Fresh.{zero_state};
 ghost use Rattle.snapshot.specs.Snapshot as defs;
 
-use crate::{Loaded, SIZE};
+use crate::{FIRST_TASK, OWN, PER_TASK, SIZE, TASKS};
 use lines::Task;
 use machine::State;
+use reason::{Reason, Refusal};
+use std::array;
 
-// The most that the field of a task's number holds.
+// The most that the field of a task's number holds. A field is its place among the fifteen, since the definitions `most_in` and `fit_from` have it so.
 fn most_in(k: usize) -> u64
     ensures { result ≡ defs.most_in k }
 {
-    if k == 4 {
-        return u64::MAX;
+    match k {
+        4 => u64::MAX,
+        1 | 10 | 11 => u64::from(u32::MAX),
+        _ => u64::from(u8::MAX),
     }
-    if (k == 1) | (k == 10) | (k == 11) {
-        return 4294967295;
-    }
-    255
 }
 
 // Whether the numbers of the state itself and of the parents have 8 bits.
-fn head_fits(list: &[u64]) -> bool
-    requires { defs.size ≤ length list.now }
+fn head_fits(list: &[u64; SIZE]) -> bool
     ensures { result ≡ defs.head_fits list.now }
 {
-    let mut ok = true;
-    let mut i = 0;
-    while i < 69 {
-        ok = ok & (list[i] <= 255);
-        i += 1;
-    }
-    ok
+    list[..FIRST_TASK].iter().all(|x| *x <= u64::from(u8::MAX))
 }
 
 // Whether the numbers of a task fit their fields.
-fn task_fits(list: &[u64], q: usize) -> bool
-    requires { (defs.size ≤ length list.now) × (q < 64) }
+fn task_fits(list: &[u64; SIZE], q: usize) -> bool
+    requires { q < 64 }
     ensures { result ≡ defs.fit_from list.now (defs.task_place q) defs.most_in 15 }
 {
-    let mut ok = true;
-    let mut k = 0;
-    while k < 15 {
-        ok = ok & (list[69 + 15 * q + k] <= most_in(k));
-        k += 1;
-    }
-    ok
+    (0..PER_TASK).all(|k| list[FIRST_TASK + PER_TASK * q + k] <= most_in(k))
 }
 
 // Whether those of all tasks do.
-fn tasks_fit(list: &[u64]) -> bool
-    requires { defs.size ≤ length list.now }
+fn tasks_fit(list: &[u64; SIZE]) -> bool
     ensures { result ≡ defs.tasks_fit list.now 64 }
 {
-    let mut ok = true;
-    let mut q = 0;
-    while q < 64 {
-        ok = ok & task_fits(list, q);
-        q += 1;
+    (0..TASKS).all(|q| task_fits(list, q))
+}
+
+// A state's numbers, of which each fits its field.
+#[derive(Clone, Copy)]
+struct Numbers<'a> {
+    list: &'a [u64; SIZE],
+    ghost fit: { defs.fits list.now ≡ true },
+}
+
+impl<'a> Numbers<'a> {
+    // The numbers of a list, if they fit.
+    fn checked(list: &'a [u64; SIZE]) -> Option<Numbers<'a>>
+        ensures { MatchOption result (defs.fits list.now ≡ false) (λ numbers. numbers.list.now ≡ list.now) }
+    {
+        if head_fits(list) && tasks_fit(list) {
+            Some(Numbers { list })
+        } else {
+            None
+        }
     }
-    ok
-}
 
-// A number of the list that has 8 bits.
-fn byte(list: &[u64], i: usize) -> u8
-    requires { (i < length list.now) × (get_or list.now i 0 ≤ 255) }
-    ensures { result ≡ get_or list.now i 0 }
-{
-    list[i] as u8
-}
-
-// A number of the list that has 32 bits.
-fn word(list: &[u64], i: usize) -> u32
-    requires { (i < length list.now) × (get_or list.now i 0 ≤ 4294967295) }
-    ensures { result ≡ get_or list.now i 0 }
-{
-    list[i] as u32
-}
-
-// The task whose numbers begin at the place.
-fn task_from(list: &[u64], at: usize) -> Task
-    requires { (at + 15 ≤ length list.now) × (defs.fit_from list.now at defs.most_in 15 ≡ true) }
-    ensures { result ≡ defs.task_from list.now at }
-{
-    Task {
-        aim: byte(list, at + 6),
-        toggle: byte(list, at + 7),
-        flag: byte(list, at + 8),
-        start: byte(list, at + 9),
-        count: word(list, at + 1),
-        list: list[at + 4],
-        left: byte(list, at + 13),
-        work: byte(list, at + 12),
-        looked: byte(list, at + 5),
-        old: byte(list, at + 3),
-        tag: byte(list, at + 2),
-        line: byte(list, at),
-        own: byte(list, at + 14),
+    // A task.
+    #[tactic(auto, using(crate::proofs::Fits::task_byte, crate::proofs::Fits::task_line, crate::proofs::Fits::task_word))]
+    fn task(self, q: usize) -> Task
+        requires { q < 64 }
+        ensures { result ≡ defs.task_from self.entry.list.now (defs.task_place q) }
+    {
+        let list = self.list;
+        let at = FIRST_TASK + PER_TASK * q;
+        Task {
+            aim: list[at + 6] as u8,
+            toggle: list[at + 7] as u8,
+            flag: list[at + 8] as u8,
+            start: list[at + 9] as u8,
+            count: list[at + 1] as u32,
+            list: list[at + 4],
+            left: list[at + 13] as u8,
+            work: list[at + 12] as u8,
+            looked: list[at + 5] as u8,
+            old: list[at + 3] as u8,
+            tag: list[at + 2] as u8,
+            line: list[at] as u8,
+            own: list[at + 14] as u8,
+        }
     }
-}
 
-// The parents.
-fn parents(list: &[u64]) -> [u8; 64]
-    requires { (defs.size ≤ length list.now) × (defs.head_fits list.now ≡ true) }
-    ensures { result ≡ table 64 (λ q. get_or list.now (5 + q) 0) }
-{
-    let mut all = [0u8; 64];
-    let mut q = 0;
-    while q < 64 {
-        all[q] = byte(list, 5 + q);
-        q += 1;
+    // The parents.
+    fn parents(self) -> [u8; TASKS]
+        ensures { result ≡ table 64 (λ q. get_or self.entry.list.now (5 + q) 0) }
+    {
+        let list = self.list;
+        array::from_fn(|q| list[OWN + q] as u8)
     }
-    all
-}
 
-// The tallies of moves, or of waits: number k of each task.
-fn tallies(list: &[u64], k: usize) -> [u32; 64]
-    requires { (defs.size ≤ length list.now) × (defs.tasks_fit list.now 64 ≡ true) × (k < 15) × (defs.most_in k ≤ 4294967295) }
-    ensures { result ≡ table 64 (λ q. defs.number_in list.now q k) }
-{
-    let mut all = [0u32; 64];
-    let mut q = 0;
-    while q < 64 {
-        all[q] = word(list, 69 + 15 * q + k);
-        q += 1;
+    // The tallies of moves, or of waits: number k of each task.
+    fn tallies(self, k: usize) -> [u32; TASKS]
+        requires { (k < 15) × (defs.most_in k ≤ 4294967295) }
+        ensures { result ≡ table 64 (λ q. defs.number_in self.entry.list.now q k) }
+    {
+        let list = self.list;
+        array::from_fn(|q| list[FIRST_TASK + PER_TASK * q + k] as u32)
     }
-    all
-}
 
-// The tasks.
-fn tasks(list: &[u64]) -> [Task; 64]
-    requires { (defs.size ≤ length list.now) × (defs.tasks_fit list.now 64 ≡ true) }
-    ensures { result ≡ table 64 (λ q. defs.task_from list.now (defs.task_place q)) }
-{
-    let first = task_from(list, 69);
-    let mut all = [first; 64];
-    let mut q = 0;
-    while q < 64 {
-        all[q] = task_from(list, 69 + 15 * q);
-        q += 1;
+    // The tasks.
+    fn tasks(self) -> [Task; TASKS]
+        ensures { result ≡ table 64 (λ q. defs.task_from self.entry.list.now (defs.task_place q)) }
+    {
+        array::from_fn(|q| self.task(q))
     }
-    all
-}
 
-// The state whose numbers these are, which fit their fields.
-fn state_from(list: &[u64]) -> State
-    requires { (defs.size ≤ length list.now) × (defs.head_fits list.now ≡ true) × (defs.tasks_fit list.now 64 ≡ true) }
-    ensures { result ≡ defs.state_from list.now }
-{
-    State {
-        kind: byte(list, 0),
-        n: byte(list, 1),
-        modulus: byte(list, 2),
-        arrivals: byte(list, 3),
-        sense: byte(list, 4),
-        parents: parents(list),
-        moves: tallies(list, 10),
-        waits: tallies(list, 11),
-        tasks: tasks(list),
+    // The state whose numbers these are.
+    #[tactic(auto, using(crate::proofs::Fits::head_byte))]
+    fn state(self) -> State
+        ensures { result ≡ defs.state_from self.entry.list.now }
+    {
+        let list = self.list;
+        State {
+            kind: list[0] as u8,
+            n: list[1] as u8,
+            modulus: list[2] as u8,
+            arrivals: list[3] as u8,
+            sense: list[4] as u8,
+            parents: self.parents(),
+            moves: self.tallies(10),
+            waits: self.tallies(11),
+            tasks: self.tasks(),
+        }
     }
 }
 
-// The answer of a list that is refused.
-fn refused(reason: u8) -> Loaded
-    ensures { result ≡ record { state = zero_state; reason = reason } }
+// The state whose numbers the list has, where each fits its field. Whether the state's fields are in range is not asked here.
+pub fn load(list: &[u64]) -> Result<State, Refusal>
+    ensures { result ≡ defs.load_answer (defs.load_of list.now) }
 {
-    Loaded {
-        state: State::zero(),
-        reason,
-    }
-}
-
-// The state whose numbers the list has. Whether it is in the range of 01 is not asked here.
-pub fn load(list: &[u64]) -> Loaded
-    ensures { result ≡ defs.load_of list.now }
-{
-    if list.len() < SIZE {
-        return refused(10);
-    }
-    if !head_fits(list) {
-        return refused(7);
-    }
-    if !tasks_fit(list) {
-        return refused(7);
-    }
-    Loaded {
-        state: state_from(list),
-        reason: 0,
-    }
+    let list = list.first_chunk::<SIZE>().ok_or(Reason::Room)?;
+    let numbers = Numbers::checked(list).ok_or(Reason::Range)?;
+    Ok(numbers.state())
 }

@@ -3,7 +3,7 @@ use Rattle.std.proofs.Common.{◌≡◌, refl, sym, ap, ◌∙◌, List, [], ◌
 use Rattle.std.proofs.Math.Option.{Option, none, some}
 use Rattle.std.proofs.lemmas.Bool.{lt-leb}
 use Rattle.std.proofs.lemmas.List.{append-nil}
-use Rattle.text.specs.declared.read.Found.TheVariants.{Count}
+use Rattle.std.specs.Prelude.{Some}
 use Rattle.text.specs.Numbers.{numbers_from, ended, over}
 use Rattle.text.specs.Scan.{Scans}
 use Rattle.text.specs.NumbersLaws.{over_more}
@@ -32,8 +32,8 @@ ahead-ended ns (suc d) value (some ms) ne = rw (append_assoc ns (value ∷ []) m
 
 -- what is answered at the end
 all_read : (o : Option (List ℕ)) (ns buffer buffer₀ : List ℕ) (count : ℕ) → o ≡ ahead ns (some []) → length ns ≡ count → buffer ≡ over ns buffer₀
-    → Scans o (Count count) buffer₀ buffer
-all_read o ns buffer buffer₀ count e n s = rw (e, append-nil ns) (ap Count (sym n), s)
+    → Scans o (Some count) buffer₀ buffer
+all_read o ns buffer buffer₀ count e n s = rw (e, append-nil ns) (ap Some (sym n), s)
 
 module _ {text buffer₀ buffer : List ℕ} {count digits value i : ℕ} (w : Scanning text buffer₀ buffer count digits value i) where
   at-end : length text ≤ i → numbers_from 0 0 text ≡ ahead w.ns (ended digits value (some []))
@@ -48,12 +48,12 @@ module _ {text buffer₀ buffer : List ℕ} {count digits value i : ℕ} (w : Sc
     stored_more : after ≡ over (w.ns ++ value ∷ []) buffer₀
     stored_more = e ∙ rw (← w.counted, w.stored) (over_more w.ns buffer₀ value)
 
-    pub last : length text ≤ i → (digits ≡ 0 → ⊥) → Scans (numbers_from 0 0 text) (Count (count + 1)) buffer₀ after
+    pub last : length text ≤ i → (digits ≡ 0 → ⊥) → Scans (numbers_from 0 0 text) (Some (count + 1)) buffer₀ after
     last l ne =
         all_read (numbers_from 0 0 text) (w.ns ++ value ∷ []) after buffer₀ (count + 1) (at-end l ∙ ahead-ended w.ns digits value (some []) ne)
         counted_more stored_more
 
-  pub no_last : length text ≤ i → digits ≡ 0 → Scans (numbers_from 0 0 text) (Count count) buffer₀ buffer
+  pub no_last : length text ≤ i → digits ≡ 0 → Scans (numbers_from 0 0 text) (Some count) buffer₀ buffer
   no_last l z = all_read (numbers_from 0 0 text) w.ns buffer buffer₀ count (rw z at (at-end l)) w.counted w.stored
 
   module _ (l : i < length text) where

@@ -1,9 +1,7 @@
 -- The numbers of a text (01, "The sheet program" and reason 1), and the bytes that stand for numbers.
-use Rattle.std.specs.Prelude.{Bool, ◌&&◌, ◌||◌, List, [], ◌∷◌, ◌++◌, ℕ, zero, suc, ◌+◌, ◌-◌, ◌*◌, eqb, leb, ltb, length, take, drop, replicate}
+use Rattle.std.specs.Prelude.{Bool, ◌&&◌, ◌||◌, List, [], ◌∷◌, ◌++◌, ℕ, zero, suc, ◌+◌, ◌-◌, ◌*◌, eqb, leb, ltb, length, take, drop, replicate, Option as Answer, Some, None}
 use Rattle.std.proofs.Math.Option.{Option, none, some}
 use Rattle.bitset.specs.Choice.{pick}
-use Rattle.text.specs.declared.read.Found.{Found}
-use Rattle.text.specs.declared.read.Found.TheVariants.{Count, Bad}
 
 -- "digit, space or line feed"
 abbrev pub is_digit : ℕ → Bool
@@ -40,10 +38,10 @@ max_text = 65536
 abbrev pub numbers_of : List ℕ → Option (List ℕ)
 numbers_of text = pick (leb (length text) max_text) (numbers_from 0 0 text) none
 
--- how many numbers that is, or that the text is bad
-abbrev pub found_of : Option (List ℕ) → Found
-found_of none = Bad
-found_of (some ns) = Count (length ns)
+-- how many numbers that is; none of a bad text
+abbrev pub found_of : Option (List ℕ) → Answer ℕ
+found_of none = None
+found_of (some ns) = Some (length ns)
 
 -- a list in the first places of a buffer, as much of it as there is room for
 abbrev pub over : List ℕ → List ℕ → List ℕ

@@ -1,16 +1,14 @@
 -- Laws of the numbers of a text: how many there can be, what the reader's answer tells of them, and the bytes that stand for them.
-use Rattle.std.specs.Prelude.{◌≡◌, refl, List, [], ◌∷◌, ◌++◌, map, ℕ, zero, suc, ◌+◌, ◌-◌, ◌*◌, min, ◌≤◌, ◌<◌, eqb, leb, ltb, length, take, drop, set, get_or}
+use Rattle.std.specs.Prelude.{◌≡◌, refl, List, [], ◌∷◌, ◌++◌, map, ℕ, zero, suc, ◌+◌, ◌-◌, ◌*◌, min, ◌≤◌, ◌<◌, eqb, leb, ltb, length, take, drop, set, get_or, replicate, Option as Answer, Some, None}
 use Rattle.std.proofs.Common.{sym, ap, ◌∙◌, arith, length-append, length-take, length-drop, take_at, take_all, ext_get_or, le-ltb, ne_eqb, leb-true, le-leb}
 use Rattle.std.proofs.Math.Option.{Option, none, some}
 use Rattle.std.proofs.Math.Decide.{dec_le}
-use Rattle.std.proofs.lemmas.List.{length-map}
+use Rattle.std.proofs.lemmas.List.{length-map, take-map, drop-map, length-take-le, length-replicate}
 use Rattle.std.proofs.Math.ListN.{get_or-map}
 use Rattle.std.proofs.Math.Seq.{take-nil}
 use Rattle.std.proofs.lemmas.Bool.{lt-leb}
 use Rattle.bitset.specs.ChoiceLaws.{by_test}
 use Rattle.bitset.specs.TasksLaws.{StandIn}
-use Rattle.text.specs.declared.read.Found.{Found}
-use Rattle.text.specs.declared.read.Found.TheVariants.{Count, Bad}
 use Rattle.text.specs.Numbers.{is_digit, is_space, ended, numbers_from, max_text, numbers_of, found_of, over, numbers_over, low}
 
 -- ---- how many numbers
@@ -76,21 +74,40 @@ over_more (y ∷ ys) (b ∷ bs) x = ap (λ (l : List ℕ). y ∷ l) (over_more y
 
 -- ---- what the reader's answer tells
 
-pub found_bad : (o : Option (List ℕ)) (r : Found) → r ≡ found_of o → r ≡ Bad → o ≡ none
+pub found_bad : (o : Option (List ℕ)) (r : Answer ℕ) → r ≡ found_of o → r ≡ None → o ≡ none
 found_bad none r e b = refl
 found_bad (some ns) r e b = let z : ◌≡◌ {A = ℕ} 0 1 = cc in absurd (omega arith)
 
 -- with a buffer of 32,768 places or more
-pub found_count : (text buffer after : List ℕ) (r : Found) → r ≡ found_of (numbers_of text) → after ≡ numbers_over (numbers_of text) buffer
-    → 32768 ≤ length buffer → (k : ℕ) → r ≡ Count k → (k ≤ 32768) × (numbers_of text ≡ some (take k after))
+pub found_count : (text buffer after : List ℕ) (r : Answer ℕ) → r ≡ found_of (numbers_of text) → after ≡ numbers_over (numbers_of text) buffer
+    → 32768 ≤ length buffer → (k : ℕ) → r ≡ Some k → (k ≤ 32768) × (numbers_of text ≡ some (take k after))
 found_count text buffer after r e a h k c = go (numbers_of text) refl (sym e ∙ c) a
   where
-    go : (o : Option (List ℕ)) → numbers_of text ≡ o → found_of o ≡ Count k → after ≡ numbers_over o buffer → (k ≤ 32768) × (o ≡ some (take k after))
+    go : (o : Option (List ℕ)) → numbers_of text ≡ o → found_of o ≡ Some k → after ≡ numbers_over o buffer → (k ≤ 32768) × (o ≡ some (take k after))
     go none n f a = let z : ◌≡◌ {A = ℕ} 0 1 = cc in absurd (omega arith)
     go (some ns) n f a =
         let l : length ns ≡ k = cc in
         let m = numbers_most text ns n in
         (omega arith, rw (← l, a, over_first ns buffer (omega arith)))
+
+-- what a buffer of 32,768 zeros holds after k numbers are counted: they are its first
+pub record Counted (text after : List ℕ) (k : ℕ) : Type 0 where
+  pub few : k ≤ 32768
+  pub there : k ≤ length after
+  pub whole : k ≡ length (take k after)
+  pub read : numbers_of text ≡ some (take k after)
+
+pub counted : (text after : List ℕ) (r : Answer ℕ) (k : ℕ) → r ≡ found_of (numbers_of text) → after ≡ numbers_over (numbers_of text) (replicate 32768 0) → r ≡ Some k → Counted text after k
+counted text after r k e a c =
+    let zeros : List ℕ = replicate 32768 0 in
+    let w = found_count text zeros after r e a (omega (arith, length-replicate {A = ℕ} 32768 0)) k c in
+    let there : k ≤ length after = omega (arith, w.0, long (numbers_of text), ap length a) in
+    record { few = w.0; there = there; whole = sym (length-take-le k after there); read = w.1 }
+  where
+    -- the buffer keeps its length
+    long : (o : Option (List ℕ)) → length (numbers_over o (replicate 32768 0)) ≡ 32768
+    long none = length-replicate {A = ℕ} (length (replicate {A = ℕ} 32768 0)) 0 ∙ length-replicate {A = ℕ} 32768 0
+    long (some ns) = over_length ns (replicate 32768 0) ∙ length-replicate {A = ℕ} 32768 0
 
 -- ---- the bytes of the numbers
 
@@ -124,14 +141,10 @@ low_list xs h =
 
 -- the bytes of the first k numbers, and of those after them
 pub low_first : (k : ℕ) (xs : List ℕ) → take k (map low xs) ≡ map low (take k xs)
-low_first zero xs = refl
-low_first (suc k) [] = refl
-low_first (suc k) (x ∷ xs) = ap (λ (l : List ℕ). low x ∷ l) (low_first k xs)
+low_first = take-map low
 
 pub low_rest : (k : ℕ) (xs : List ℕ) → drop k (map low xs) ≡ map low (drop k xs)
-low_rest zero xs = refl
-low_rest (suc k) [] = refl
-low_rest (suc k) (x ∷ xs) = low_rest k xs
+low_rest = drop-map low
 
 -- a byte stands for its number among the numbers of tasks
 pub low_alike : StandIn low

@@ -1,10 +1,11 @@
 -- Laws of printing: one thing after another, where there is room and where there is none, and on a blank page.
-use Rattle.std.specs.Prelude.{◌≡◌, refl, List, [], ◌∷◌, ◌++◌, ℕ, zero, suc, ◌+◌, ◌-◌, ◌≤◌, ◌<◌, length, take, drop, set, replicate}
+use Rattle.std.specs.Prelude.{◌≡◌, refl, List, [], ◌∷◌, ◌++◌, ℕ, zero, suc, ◌+◌, ◌-◌, ◌≤◌, ◌<◌, length, take, set, replicate}
 use Rattle.std.proofs.Common.{sym, ap, ◌∙◌, zero-add, add-zero, arith, length-append, take_all}
-use Rattle.std.proofs.lemmas.List.{length-replicate}
+use Rattle.std.proofs.lemmas.List.{length-replicate, drop-replicate}
 use Rattle.std.proofs.lemmas.List.Edits.{sets, sets-eq}
 use Rattle.std.proofs.Math.Seq.{length-sets, take-nil}
-use Rattle.text.specs.Page.{fitting, Prints}
+use Rattle.text.specs.declared.print.Page.{Page}
+use Rattle.text.specs.Page.{fitting, Prints, Puts}
 
 -- ---- one thing after another
 
@@ -65,13 +66,20 @@ prints_none at p = record { next = rw take-nil (omega arith); page = rw take-nil
 
 -- ---- on a blank page
 
-drop_zeros : (n k : ℕ) → drop k (replicate {A = ℕ} n 0) ≡ replicate (n - k) 0
-drop_zeros n zero = let e : n - 0 ≡ n = omega arith in rw e
-drop_zeros zero (suc k) = let e : 0 - suc k ≡ 0 = omega arith in rw e
-drop_zeros (suc n) (suc k) = let e : suc n - suc k ≡ n - k = omega arith in rw e (drop_zeros n k)
-
 -- what a page of n bytes holds and how much, where there was room
 pub blank : (n : ℕ) {ws q : List ℕ} {to : ℕ} → Prints 0 ws (replicate n 0) to q → length ws ≤ n → (to ≡ length ws) × (q ≡ ws ++ replicate (n - length ws) 0)
 blank n {ws} {q} {to} a h =
     let w = prints_whole a (rw length-replicate (omega arith)) in
-    (omega arith, w.1 ∙ sets-eq ws (replicate n 0) 0 (rw length-replicate (omega arith)) ∙ rw zero-add (ap (λ (zs : List ℕ). ws ++ zs) (drop_zeros n (length ws))))
+    (omega arith, w.1 ∙ sets-eq ws (replicate n 0) 0 (rw length-replicate (omega arith)) ∙ rw zero-add (ap (λ (zs : List ℕ). ws ++ zs) (drop-replicate (length ws) n 0)))
+
+-- ---- on a page
+
+pub puts_none : (p : Page) → Puts [] p p
+puts_none p = record { prints = prints_none p.at p.bytes.now; same = refl }
+
+pub puts_then : {us vs : List ℕ} {p q r : Page} → Puts us p q → Puts vs q r → Puts (us ++ vs) p r
+puts_then a b = record { prints = prints_then a.prints b.prints; same = b.same ∙ a.same }
+
+-- the bytes of a page on which nothing was printed before and all were zeros, where there was room
+pub puts_blank : (n : ℕ) {ws x : List ℕ} {p q : Page} → p.at ≡ 0 → p.bytes.now ≡ replicate n 0 → Puts ws p q → length ws ≤ n → x ≡ q.bytes.now → (q.at ≡ length ws) × (x ≡ ws ++ replicate (n - length ws) 0)
+puts_blank n z e a h g = let w = blank n (rw (z, e) at a.prints) h in (w.0, g ∙ w.1)

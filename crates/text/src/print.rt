@@ -1,48 +1,74 @@
-// The printers: each writes bytes to a page of any length from a place on, as many as there is room for, and answers the place after
-// them (`Prints` in specs/Page.antt).
-ghost use Rattle.std.specs.Prelude.{[], ◌∷◌};
+// A page of lent bytes, printed on from its first place on, as far as it goes (`Puts` in specs/Page.antt).
+ghost use Rattle.std.specs.Prelude.{◌≡◌, [], ◌∷◌};
 ghost use Rattle.text.specs.Decimal.{decimal, spaced};
-ghost use Rattle.text.specs.Page.{Prints};
+ghost use Rattle.text.specs.Page.{Puts};
 
-// One byte.
-pub fn byte(page: &mut [u8], at: usize, b: u8) -> usize
-    ensures { Prints at (b ∷ []) page.old result page.new }
-{
-    if page.len() <= at {
-        return at;
-    }
-    page[at] = b;
-    at + 1
+// The bytes, and the place after those that are printed.
+#[derive(Drop)]
+pub struct Page<'a> {
+    bytes: &'a mut [u8],
+    at: usize,
 }
 
-// The bytes of a word.
-pub fn word(page: &mut [u8], at: usize, w: &[u8]) -> usize
-    ensures { Prints at w.now page.old result page.new }
-{
-    let mut next = at;
-    let mut i = 0;
-    while i < w.len() {
-        next = byte(page, next, w[i]);
-        i += 1;
+impl<'a> Page<'a> {
+    // A page that is printed on from this place on, inside the bytes or past their end.
+    pub fn at(bytes: &'a mut [u8], at: usize) -> Page<'a>
+        ensures value { (result.at ≡ at) × (result.bytes.now ≡ bytes.old) }
+        ensures same_bytes { result.bytes.ghost_name ≡ bytes.entry.ghost_name }
+    {
+        Page { bytes, at }
     }
-    next
-}
 
-// A number in decimal: the digits above the last one first.
-pub fn number(page: &mut [u8], at: usize, x: usize) -> usize
-    ensures { Prints at (decimal x) page.old result page.new }
-{
-    if x < 10 {
-        return byte(page, at, 48 + x as u8);
+    // A page on which nothing is printed yet.
+    pub fn new(bytes: &'a mut [u8]) -> Page<'a>
+        ensures value { (result.at ≡ 0) × (result.bytes.now ≡ bytes.old) }
+        ensures same_bytes { result.bytes.ghost_name ≡ bytes.entry.ghost_name }
+    {
+        Page { bytes, at: 0 }
     }
-    let next = number(page, at, x / 10);
-    byte(page, next, 48 + (x % 10) as u8)
-}
 
-// A space and a number.
-pub fn spaced(page: &mut [u8], at: usize, x: usize) -> usize
-    ensures { Prints at (spaced x) page.old result page.new }
-{
-    let next = byte(page, at, 32);
-    number(page, next, x)
+    // How many bytes are printed: the place after them.
+    pub fn place(&self) -> usize
+        ensures { result ≡ self.now.at }
+    {
+        self.at
+    }
+
+    // One byte.
+    pub fn byte(&mut self, b: u8)
+        ensures { Puts (b ∷ []) self.old self.new }
+    {
+        if self.at < self.bytes.len() {
+            self.bytes[self.at] = b;
+            self.at += 1;
+        }
+    }
+
+    // The bytes of a word.
+    pub fn word(&mut self, w: &[u8])
+        ensures { Puts w.now self.old self.new }
+    {
+        for &b in w {
+            self.byte(b);
+        }
+    }
+
+    // A number in decimal: the digits above the last one first. By hand: `write!` would need `fmt::Write` for the page, and a law from `Display` to
+    // `decimal`, which is longer.
+    pub fn number(&mut self, x: usize)
+        ensures { Puts (decimal x) self.old self.new }
+    {
+        if 10 <= x {
+            self.number(x / 10);
+        }
+        self.byte(48 + (x % 10) as u8);
+    }
+
+    // A space and a number.
+    pub fn spaced(&mut self, x: usize)
+        ensures { Puts (spaced x) self.old self.new }
+    {
+        self.byte(32);
+        self.number(x);
+    }
 }

@@ -1,15 +1,8 @@
 // The reader: from the bytes of a text to its numbers, and from numbers to the bytes that stand for them. What is read is defined in
 // specs/Numbers.antt.
-ghost use Rattle.std.specs.Prelude.{◌≡◌, map, length, set, replicate};
+ghost use Rattle.std.specs.Prelude.{◌≡◌, map, length, set};
 ghost use Rattle.text.specs.Numbers.{numbers_of, found_of, numbers_over, byte_or, over};
 ghost use Rattle.text.specs.Scan.{Scans};
-
-// What a text holds: so many numbers, or something that is no number.
-#[derive(Drop)]
-pub enum Found {
-    Count(usize),
-    Bad,
-}
 
 // Writes a number to a place, if the buffer has it.
 fn store(buffer: &mut [u32], at: usize, x: u32)
@@ -20,24 +13,22 @@ fn store(buffer: &mut [u32], at: usize, x: u32)
     }
 }
 
-// Writes the numbers of a text to the buffer, one after the other. What it leaves there of a bad text is not said.
-fn scan(text: &[u8], buffer: &mut [u32]) -> Found
+// Writes the numbers of a text to the buffer, one after the other. What it leaves there of a bad text is not said. `count` and `digits` are counted
+// by hand, since they go on with what is read and not with the loop. vectors/src/text.rt reads decimals by another rule: 64 bits, one space between.
+fn scan(text: &[u8], buffer: &mut [u32]) -> Option<usize>
     ensures { Scans (numbers_of text.now) result buffer.old buffer.new }
 {
     if 65536 < text.len() {
-        return Found::Bad;
+        return None;
     }
     let mut count: usize = 0;
     let mut digits: usize = 0;
     let mut value: u32 = 0;
-    let mut i = 0;
-    while i < text.len() {
-        let b = text[i];
-        i += 1;
+    for &b in text {
         match b {
             48..=57 => {
                 if digits == 5 {
-                    return Found::Bad;
+                    return None;
                 }
                 digits += 1;
                 value = value * 10 + (b - 48) as u32;
@@ -50,54 +41,36 @@ fn scan(text: &[u8], buffer: &mut [u32]) -> Found
                     value = 0;
                 }
             }
-            _ => return Found::Bad,
+            _ => return None,
         }
     }
     if digits != 0 {
         store(buffer, count, value);
         count += 1;
     }
-    Found::Count(count)
+    Some(count)
 }
 
-// Writes 0 to every place.
-fn clear(buffer: &mut [u32])
-    ensures { buffer.new ≡ replicate (length buffer.old) 0 }
-{
-    let mut i = 0;
-    while i < buffer.len() {
-        buffer[i] = 0;
-        i += 1;
-    }
-}
-
-// Writes the numbers of any text to the first places of the buffer, as many as it has room for, and answers how many there are. 32,768
-// places are enough. A bad text leaves only zeros.
-pub fn numbers(text: &[u8], buffer: &mut [u32]) -> Found
+// Writes the numbers of any text to the first places of the buffer, as many as it has room for, and answers how many there are; none if
+// the text is bad, which leaves only zeros. 32,768 places are enough. The count stands beside the lent buffer: no heap.
+pub fn numbers(text: &[u8], buffer: &mut [u32]) -> Option<usize>
     ensures value { result ≡ found_of (numbers_of text.now) }
     ensures buffer_after { buffer.new ≡ numbers_over (numbers_of text.now) buffer.old }
 {
     let found = scan(text, buffer);
-    let Found::Count(count) = found else {
-        clear(buffer);
-        return Found::Bad;
-    };
-    Found::Count(count)
+    if found.is_none() {
+        buffer.fill(0);
+    }
+    found
 }
 
 // Writes each number as a byte, and `wide` for one that no byte holds, to the first places of the buffer, as many as it has room for.
 pub fn bytes(numbers: &[u32], wide: u8, buffer: &mut [u8])
     ensures { buffer.new ≡ over (map (byte_or wide) numbers.now) buffer.old }
 {
-    let count = bitset::smaller(numbers.len(), buffer.len());
-    let mut i = 0;
-    while i < count {
-        let x = numbers[i];
-        if x <= 255 {
-            buffer[i] = x as u8;
-        } else {
-            buffer[i] = wide;
-        }
-        i += 1;
+    let count = numbers.len().min(buffer.len());
+    // By index: after a loop over `iter_mut` nothing is known of the elements.
+    for i in 0..count {
+        buffer[i] = u8::try_from(numbers[i]).unwrap_or(wide);
     }
 }

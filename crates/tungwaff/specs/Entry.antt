@@ -1,28 +1,25 @@
 -- What the exported functions answer: each is a call of the library, and its answer is told by numbers. A reason is 0 where nothing was refused.
-use Rattle.std.specs.Prelude.{Bool, List, ℕ, eqb, length}
+use Rattle.std.specs.Prelude.{Bool, List, ℕ, eqb, length, Err, Result, Ok}
 use Rattle.bitset.specs.Choice.{pick}
+use Rattle.reason.specs.Checked.{answered}
 use Rattle.parents.specs.Shapes.{shape_of, table_after}
 use Rattle.schedule.specs.Passes.{passes_answer, passes_reason, passes_count, passes_place, pairs_after}
 use Rattle.setup.specs.Reasons.{first_reason}
 use Rattle.machine.specs.declared.Turned.{Turned}
-use Rattle.machine.specs.declared.Ready.{Ready}
-use Rattle.machine.specs.declared.Ready.TheVariants as ready
-use Rattle.machine.specs.Fresh.{Inputs, inputs_of, fresh_of}
+use Rattle.machine.specs.Answers.{Ready}
+use Rattle.machine.specs.declared.State.{State}
+use Rattle.machine.specs.Fresh.{Inputs, inputs_of, fresh_of, zero_state}
 use Rattle.machine.specs.Turn.{refused_turn, turn_of, reason_number}
 use Rattle.machine.specs.Ready.{ready_of, ready_reason, ready_number}
 use Rattle.runner.specs.declared.Ran.{Ran}
 use Rattle.runner.specs.Run.{refused_run, ending_reason}
-use Rattle.playback.specs.declared.Verdict.{Verdict}
-use Rattle.playback.specs.declared.Verdict.TheVariants as verdict
 use Rattle.playback.specs.declared.Played.{Played}
-use Rattle.playback.specs.Playback.{play_of, verdict_reason, verdict_agrees, verdict_index}
+use Rattle.playback.specs.Playback.{Report, play_of, verdict_reason, verdict_agrees, verdict_index}
 use Rattle.numbers.specs.Numbers.{ending_place, turn_number, turn_closed}
-use Rattle.reader.specs.declared.Said.{Said}
-use Rattle.reader.specs.Read.{said_of, parents_in, turns_in, read_within}
+use Rattle.reader.specs.Read.{Told, said_of, parents_in, turns_in, read_within}
 use Rattle.sheet_text.specs.Print.{sheet_of, page_of}
 use Rattle.rows.specs.Rows.{turn_room, task_room, is_refused, listed_of, listed_log, turn_rows_after, task_rows_after}
-use Rattle.snapshot.specs.Snapshot.{room_reason, saved_to, load_of}
-use Rattle.tungwaff.specs.declared.Begun.{Begun}
+use Rattle.snapshot.specs.Snapshot.{room_reason, saved_to, load_of, load_answer}
 
 -- the inputs of a fresh state, from numbers
 abbrev pub inputs_from : ℕ → ℕ → ℕ → List ℕ → List ℕ → List ℕ → Inputs
@@ -40,34 +37,45 @@ fresh_list i list = pick (eqb (fresh_of i).reason 0) (saved_to (fresh_of i).stat
 
 -- ---- runs
 
--- what a run begins with: a fresh state, or the state that a list keeps; with the reason that refused it
+-- what a run begins with: a fresh state, or the state that a list keeps; or the reason that refused it
+abbrev pub Begun : Type 0
+Begun = Result State ℕ
+
 abbrev pub freshly : Inputs → Begun
-freshly i = record { state = (fresh_of i).state; reason = (fresh_of i).reason }
+freshly i = answered (fresh_of i).state (fresh_of i).reason
 
 abbrev pub kept_in : List ℕ → Begun
-kept_in list = record { state = (load_of list).state; reason = (load_of list).reason }
+kept_in list = load_answer (load_of list)
+
+-- the state, all 0 where it was refused
+abbrev pub state_in : Begun → State
+state_in (Ok s) = s
+state_in (Err k) = zero_state
 
 -- the run's answer; where there is no state to begin with, that of a refused run. `ok` says whether the list for its numbers has room.
-unfoldable pub ran_from : Begun → List ℕ → ℕ → List ℕ → Bool → Ran
-ran_from b schedule allowance log ok =
-    pick (eqb b.reason 0) (listed_of b.state schedule allowance log ok) (refused_run b.state b.reason 0)
+abbrev pub ran_from : Begun → List ℕ → ℕ → List ℕ → Bool → Ran
+ran_from (Ok s) schedule allowance log ok = listed_of s schedule allowance log ok
+ran_from (Err k) schedule allowance log ok = refused_run zero_state k 0
 
 -- the log, and the list of the tasks' or of the turns' numbers, after it
-unfoldable pub log_from : Begun → List ℕ → ℕ → List ℕ → Bool → List ℕ
-log_from b schedule allowance log ok = pick (eqb b.reason 0) (listed_log b.state schedule allowance log ok) log
+abbrev pub log_from : Begun → List ℕ → ℕ → List ℕ → Bool → List ℕ
+log_from (Ok s) schedule allowance log ok = listed_log s schedule allowance log ok
+log_from (Err k) schedule allowance log ok = log
 
-unfoldable pub tasks_from : Begun → List ℕ → ℕ → List ℕ → List ℕ → List ℕ
-tasks_from b schedule allowance log tasks = pick (eqb b.reason 0) (task_rows_after b.state schedule allowance log tasks) tasks
+abbrev pub tasks_from : Begun → List ℕ → ℕ → List ℕ → List ℕ → List ℕ
+tasks_from (Ok s) schedule allowance log tasks = task_rows_after s schedule allowance log tasks
+tasks_from (Err k) schedule allowance log tasks = tasks
 
-unfoldable pub rows_from : Begun → List ℕ → ℕ → List ℕ → List ℕ → List ℕ
-rows_from b schedule allowance log rows = pick (eqb b.reason 0) (turn_rows_after b.state schedule allowance log rows) rows
+abbrev pub rows_from : Begun → List ℕ → ℕ → List ℕ → List ℕ → List ℕ
+rows_from (Ok s) schedule allowance log rows = turn_rows_after s schedule allowance log rows
+rows_from (Err k) schedule allowance log rows = rows
 
 -- with a list for the tasks' numbers, and with one for the turns'
 abbrev pub tasks_ran : Begun → List ℕ → ℕ → List ℕ → List ℕ → Ran
-tasks_ran b schedule allowance log tasks = ran_from b schedule allowance log (task_room b.state (length tasks))
+tasks_ran b schedule allowance log tasks = ran_from b schedule allowance log (task_room (state_in b) (length tasks))
 
 abbrev pub tasks_log : Begun → List ℕ → ℕ → List ℕ → List ℕ → List ℕ
-tasks_log b schedule allowance log tasks = log_from b schedule allowance log (task_room b.state (length tasks))
+tasks_log b schedule allowance log tasks = log_from b schedule allowance log (task_room (state_in b) (length tasks))
 
 abbrev pub rows_ran : Begun → List ℕ → ℕ → List ℕ → List ℕ → Ran
 rows_ran b schedule allowance log rows = ran_from b schedule allowance log (turn_room schedule allowance (length rows))
@@ -82,8 +90,9 @@ kept_after ran list = pick (is_refused ran.ending) list (saved_to ran.state list
 -- ---- a turn, and who is ready
 
 -- a turn of the task p; a state that was refused has none
-unfoldable pub turned_from : Begun → ℕ → Turned
-turned_from b p = pick (eqb b.reason 0) (turn_of b.state p) (refused_turn b.state b.reason)
+abbrev pub turned_from : Begun → ℕ → Turned
+turned_from (Ok s) p = turn_of s p
+turned_from (Err k) p = refused_turn zero_state k
 
 -- the list that keeps the state, after the turn; a refused one leaves it
 unfoldable pub turn_list : List ℕ → ℕ → List ℕ
@@ -91,8 +100,9 @@ turn_list list p =
     let turned = turned_from (kept_in list) p in
     pick (eqb (reason_number turned.outcome) 0) (saved_to turned.state list) list
 
-unfoldable pub ready_kept : Begun → Ready
-ready_kept b = pick (eqb b.reason 0) (ready_of b.state).ready (ready.Refused b.reason)
+abbrev pub ready_kept : Begun → Ready
+ready_kept (Ok s) = (ready_of s).ready
+ready_kept (Err k) = Err k
 
 -- ---- what each exported function answers: its own number (`reason`, where it has one), those that it tells, and what was lent to be written
 
@@ -210,7 +220,7 @@ pub record PlayAnswer : Type 0 where
   pub agrees : ℕ
   pub index : ℕ
 
-abbrev pub verdict_told : Verdict → PlayAnswer
+abbrev pub verdict_told : Report → PlayAnswer
 verdict_told verdict = record { reason = verdict_reason verdict; agrees = verdict_agrees verdict; index = verdict_index verdict }
 
 abbrev pub play_told : Inputs → List ℕ → PlayAnswer
@@ -223,10 +233,10 @@ pub record PlayStateAnswer : Type 0 where
   pub list : List ℕ
 
 -- a play-back's own verdict; else 10 for a short list
-unfoldable pub kept_verdict : Played → List ℕ → Verdict
+unfoldable pub kept_verdict : Played → List ℕ → Report
 kept_verdict played list =
     pick (eqb (verdict_reason played.verdict) 0)
-    (pick (eqb (room_reason list) 0) played.verdict (verdict.Refused (room_reason list)))
+    (pick (eqb (room_reason list) 0) played.verdict (Err (room_reason list)))
     played.verdict
 
 -- a refused call "writes to no buffer"
@@ -238,7 +248,7 @@ play_state_told i trace list = record { told = verdict_told (kept_verdict (play_
 
 -- `tungwaff_read`: what is said of the text, and the buffers of parents and turns
 pub record ReadAnswer : Type 0 where
-  pub said : Said
+  pub said : Told
   pub parents : List ℕ
   pub schedule : List ℕ
 

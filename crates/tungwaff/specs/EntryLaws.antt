@@ -1,5 +1,5 @@
 -- Laws of what the exported functions answer: from a state that a list keeps they are those of the library's own calls.
-use Rattle.std.specs.Prelude.{◌≡◌, true, false, List, ◌≢◌, ℕ, length}
+use Rattle.std.specs.Prelude.{◌≡◌, true, false, List, ◌≢◌, ℕ, length, Ok}
 use Rattle.std.proofs.Math.Path.{ap}
 use Rattle.std.proofs.Math.Decide.{ℕ_discrete}
 use Rattle.std.proofs.Common.{eq-eqb, ne_eqb}
@@ -11,49 +11,41 @@ use Rattle.runner.specs.declared.Ran.{Ran}
 use Rattle.playback.specs.declared.Played.{Played}
 use Rattle.playback.specs.Playback.{verdict_reason}
 use Rattle.rows.specs.Rows.{turn_room, task_room, is_refused, listed_of, listed_log, turn_rows_after, task_rows_after}
-use Rattle.snapshot.specs.declared.Loaded.{Loaded}
-use Rattle.snapshot.specs.Snapshot.{room_reason, saved_to, load_of}
-use Rattle.tungwaff.specs.declared.Begun.{Begun}
-use Rattle.tungwaff.specs.Entry.{fresh_into, fresh_list, kept_in, ran_from, log_from, tasks_from, rows_from, tasks_ran, tasks_log, rows_ran, rows_log, kept_after, turned_from, turn_list, ready_kept, kept_verdict, kept_played}
+use Rattle.snapshot.specs.Snapshot.{room_reason, saved_to, load_of, load_answer}
+use Rattle.tungwaff.specs.Entry.{Begun, fresh_into, fresh_list, kept_in, tasks_from, rows_from, tasks_ran, tasks_log, rows_ran, rows_log, kept_after, turned_from, turn_list, ready_kept, kept_verdict, kept_played}
 
 -- ---- from a list that keeps a state
 
 module _ (list : List ℕ) (s : State) (e : load_of list ≡ record { state = s; reason = 0 }) where
   -- the state to begin with
   abbrev from : Begun
-  from = record { state = s; reason = 0 }
+  from = Ok s
 
   kept : kept_in list ≡ from
-  kept = let begun : Loaded → Begun = λ l. record { state = l.state; reason = l.reason } in ap begun e
+  kept = ap load_answer e
 
   pub turned_kept : (p : ℕ) → turned_from (kept_in list) p ≡ turn_of s p
-  unfolding turned_from
   turned_kept p = ap (λ (b : Begun). turned_from b p) kept
 
   pub ready_kept_lem : ready_kept (kept_in list) ≡ (ready_of s).ready
-  unfolding ready_kept
   ready_kept_lem = ap ready_kept kept
 
   module _ (schedule : List ℕ) (allowance : ℕ) (log : List ℕ) where
     pub tasks_kept : (tasks : List ℕ) → tasks_ran (kept_in list) schedule allowance log tasks ≡ listed_of s schedule allowance log (task_room s (length tasks))
-    unfolding ran_from
     tasks_kept tasks = ap (λ (b : Begun). tasks_ran b schedule allowance log tasks) kept
 
     pub rows_kept : (rows : List ℕ) → rows_ran (kept_in list) schedule allowance log rows ≡ listed_of s schedule allowance log (turn_room schedule allowance (length rows))
-    unfolding ran_from
     rows_kept rows = ap (λ (b : Begun). rows_ran b schedule allowance log rows) kept
 
     -- what is left in the log and in the list of numbers
     pub tasks_left : (tasks : List ℕ)
         → (tasks_log (kept_in list) schedule allowance log tasks ≡ listed_log s schedule allowance log (task_room s (length tasks)))
         × (tasks_from (kept_in list) schedule allowance log tasks ≡ task_rows_after s schedule allowance log tasks)
-    unfolding log_from tasks_from
     tasks_left tasks = (ap (λ (b : Begun). tasks_log b schedule allowance log tasks) kept, ap (λ (b : Begun). tasks_from b schedule allowance log tasks) kept)
 
     pub rows_left : (rows : List ℕ)
         → (rows_log (kept_in list) schedule allowance log rows ≡ listed_log s schedule allowance log (turn_room schedule allowance (length rows)))
         × (rows_from (kept_in list) schedule allowance log rows ≡ turn_rows_after s schedule allowance log rows)
-    unfolding log_from rows_from
     rows_left rows = (ap (λ (b : Begun). rows_log b schedule allowance log rows) kept, ap (λ (b : Begun). rows_from b schedule allowance log rows) kept)
 
 -- ---- the list that keeps a state, after a call

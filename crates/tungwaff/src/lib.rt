@@ -4,46 +4,25 @@
 
 ghost use Rattle.std.specs.Prelude.{◌≡◌, length};
 ghost use Rattle.schedule.specs.FirstPass.{first_pass_of};
-ghost use Rattle.machine.specs.Fresh.{inputs_of};
+ghost use Rattle.machine.specs.Fresh.{inputs_of, zero_state};
 ghost use Rattle.runner.specs.Run.{refused_run};
 ghost use Rattle.bound.specs.Bound.{limit_of};
 ghost use Rattle.tungwaff.specs.Entry as defs;
 
-use machine::{Outcome, Ready, Setup, State, Turned};
+use machine::{Setup, State, Tables, Turned};
 use playback::{Played, Verdict};
-use runner::{Ending, Ran};
+use reason::Refusal;
+use runner::Ran;
 use snapshot::load::load;
 use snapshot::save::save;
 
-// What a call begins with: a state, and the reason that refused it, or 0.
-#[derive(Drop)]
-struct Begun {
-    state: State,
-    reason: u8,
-}
-
-// The fresh state.
-fn freshly(setup: Setup, parents: &[u8], starts: &[u8], works: &[u8]) -> Begun
-    ensures { result ≡ defs.freshly (inputs_of setup parents.now starts.now works.now) }
+// The fresh state, or why it is refused. The inputs are spelled out: no other clause here reads them off `Tables`, so a word for them is no plainer.
+fn freshly(setup: Setup, tables: Tables<'_>) -> Result<State, Refusal>
+    ensures { result ≡ defs.freshly (inputs_of setup tables.entry.parents.now tables.entry.starts.now tables.entry.works.now) }
 {
-    let fresh = setup.fresh(parents, starts, works);
-    let state = fresh.state;
-    Begun {
-        state,
-        reason: fresh.reason,
-    }
-}
-
-// The state that a list keeps.
-fn kept_in(list: &[u64]) -> Begun
-    ensures { result ≡ defs.kept_in list.now }
-{
-    let loaded = load(list);
-    let state = loaded.state;
-    Begun {
-        state,
-        reason: loaded.reason,
-    }
+    let fresh = setup.fresh(tables);
+    fresh.made?;
+    Ok(fresh.state)
 }
 
 // Writes a fresh state with these tables of parents, starts and work lengths to the list. Answers the reason that refused it, or 10 for a
@@ -60,32 +39,29 @@ pub fn tungwaff_fresh(
     ensures { defs.fresh_told (defs.inputs_from kind n modulus parents.now starts.now works.now) list.old
         ≡ record { reason = result; list = list.new } }
 {
-    let begun = freshly(Setup { kind, n, modulus }, parents, starts, works);
-    let reason = begun.reason;
-    if reason != 0 {
-        return reason;
+    let setup = Setup { kind, n, modulus };
+    let tables = Tables {
+        parents,
+        starts,
+        works,
+    };
+    match freshly(setup, tables) {
+        Ok(state) => numbers::refused_reason(&save(state, list)),
+        Err(refusal) => refusal.number(),
     }
-    save(begun.state, list)
 }
 
 // The answer of a run that has no state to begin with.
-fn unrun(begun: Begun) -> Ran
-    ensures { result ≡ refused_run begun.state begun.reason 0 }
+fn unrun(refusal: Refusal) -> Ran
+    ensures { result ≡ refused_run zero_state refusal 0 }
 {
-    let state = begun.state;
-    Ran {
-        state,
-        ending: Ending::Refused(begun.reason, 0),
-        turns: 0,
-        rounds: 0,
-        moves: [0u32; 64],
-        waits: [0u32; 64],
-    }
+    runner::refused(State::zero(), refusal.into())
 }
 
 // Runs the schedule, at most as many turns as the allowance, and writes two bytes a turn to the log and four numbers a task to the list.
+// Schedule, allowance and log are no struct: the C interface lends them one by one, and `rows::by_task` takes them so.
 fn run_tasks(
-    begun: Begun,
+    begun: Result<State, Refusal>,
     schedule: &[u8],
     allowance: usize,
     log: &mut [u8],
@@ -95,15 +71,17 @@ fn run_tasks(
     ensures log_after { log.new ≡ defs.tasks_log begun schedule.now allowance log.old tasks.old }
     ensures tasks_after { tasks.new ≡ defs.tasks_from begun schedule.now allowance log.old tasks.old }
 {
-    if begun.reason != 0 {
-        return unrun(begun);
+    match begun {
+        Ok(state) => rows::by_task(state, schedule, allowance, log, tasks),
+        Err(refusal) => unrun(refusal),
     }
-    rows::by_task(begun.state, schedule, allowance, log, tasks)
 }
 
 // Runs the schedule as `run_tasks` does, and writes six numbers a turn to the list.
+// Its match is not shared with `run_tasks` by a closure: no plainer, since the definitions differ (`tasks_ran`, `rows_ran`), and each closure would
+// state them again.
 fn run_rows(
-    begun: Begun,
+    begun: Result<State, Refusal>,
     schedule: &[u8],
     allowance: usize,
     log: &mut [u8],
@@ -113,33 +91,31 @@ fn run_rows(
     ensures log_after { log.new ≡ defs.rows_log begun schedule.now allowance log.old rows.old }
     ensures rows_after { rows.new ≡ defs.rows_from begun schedule.now allowance log.old rows.old }
 {
-    if begun.reason != 0 {
-        return unrun(begun);
+    match begun {
+        Ok(state) => rows::by_turn(state, schedule, allowance, log, rows),
+        Err(refusal) => unrun(refusal),
     }
-    rows::by_turn(begun.state, schedule, allowance, log, rows)
 }
 
 // Writes the state after a run to the list that keeps it. The list has room, since the state came from it; a refused run leaves it.
-fn keep(ran: Ran, list: &mut [u64])
-    ensures { list.new ≡ defs.kept_after ran list.old }
+fn keep(ran: &Ran, list: &mut [u64])
+    ensures { list.new ≡ defs.kept_after ran.now list.old }
 {
-    let ending = ran.ending;
-    if rows::refused(ending) {
+    if rows::refused(ran.ending) {
         return;
     }
-    save(ran.state, list);
+    let _ = save(ran.state, list);
 }
 
 // Tells a run's answer: the turns made, the place of reason 9, else 0, the rounds closed, and the reason.
-fn tell(ran: Ran, turns: &mut usize, place: &mut usize, rounds: &mut u32) -> u8
-    ensures { defs.numbers_of ran
+fn tell(ran: &Ran, turns: &mut usize, place: &mut usize, rounds: &mut u32) -> u8
+    ensures { defs.numbers_of ran.now
         ≡ record { reason = result; turns = turns.new; place = place.new; rounds = rounds.new } }
 {
-    let ending = ran.ending;
     *turns = ran.turns;
-    *place = numbers::ending_place(ending);
+    *place = numbers::ending_place(&ran.ending);
     *rounds = ran.rounds;
-    numbers::ending_reason(ending)
+    numbers::ending_reason(&ran.ending)
 }
 
 // Runs the schedule from a fresh state with these tables of parents, starts and work lengths, at most as many turns as the allowance. Writes two
@@ -169,9 +145,15 @@ pub fn tungwaff_run(
           tasks = tasks.new;
         } }
 {
-    let begun = freshly(Setup { kind, n, modulus }, parents, starts, works);
+    let setup = Setup { kind, n, modulus };
+    let tables = Tables {
+        parents,
+        starts,
+        works,
+    };
+    let begun = freshly(setup, tables);
     let ran = run_tasks(begun, schedule, allowance, log, tasks);
-    tell(ran, turns, place, rounds)
+    tell(&ran, turns, place, rounds)
 }
 
 // Runs the schedule as `tungwaff_run` does, from the state that the list keeps, and writes the state after it to the list. Reason 10 is also that of
@@ -194,10 +176,10 @@ pub fn tungwaff_resume(
           list = list.new;
         } }
 {
-    let begun = kept_in(list);
+    let begun = load(list);
     let ran = run_tasks(begun, schedule, allowance, log, tasks);
-    keep(ran, list);
-    tell(ran, turns, place, rounds)
+    keep(&ran, list);
+    tell(&ran, turns, place, rounds)
 }
 
 // Runs the schedule as `tungwaff_resume` does, and writes to `rows` six numbers for every turn made: its task, its line before, 1 if it moved or 0 if
@@ -220,38 +202,33 @@ pub fn tungwaff_rows(
           list = list.new;
         } }
 {
-    let begun = kept_in(list);
+    let begun = load(list);
     let ran = run_rows(begun, schedule, allowance, log, rows);
-    keep(ran, list);
-    tell(ran, turns, place, rounds)
+    keep(&ran, list);
+    tell(&ran, turns, place, rounds)
 }
 
 // A turn of the task; a state that was refused has none.
-fn turn_of(begun: Begun, task: usize) -> Turned
+fn turn_of(begun: Result<State, Refusal>, task: usize) -> Turned
     ensures { result ≡ defs.turned_from begun task }
 {
-    let reason = begun.reason;
-    let state = begun.state;
-    if reason != 0 {
-        return Turned {
-            state,
-            outcome: Outcome::Refused(reason),
-        };
+    match begun {
+        Ok(state) => state.turn(task),
+        Err(refusal) => Turned {
+            state: State::zero(),
+            outcome: Err(refusal),
+        },
     }
-    state.turn(task)
 }
 
 // Who can move; in a state that was refused nobody is asked.
-fn ready_in(begun: Begun) -> Ready
+fn ready_in(begun: Result<State, Refusal>) -> Result<Option<usize>, Refusal>
     ensures { result ≡ defs.ready_kept begun }
 {
-    let reason = begun.reason;
-    if reason != 0 {
-        return Ready::Refused(reason);
+    match begun {
+        Ok(state) => state.ready().ready,
+        Err(refusal) => Err(refusal),
     }
-    let state = begun.state;
-    let readied = state.ready();
-    readied.ready
 }
 
 // Makes a turn of the task from the state that the list keeps, and writes the state after it to the list. Answers the reason that refused the list
@@ -260,14 +237,13 @@ pub fn tungwaff_turn(list: &mut [u64], task: usize, moved: &mut u8, closed: &mut
     ensures { defs.turn_told list.old task
         ≡ record { reason = result; moved = moved.new; closed = closed.new; list = list.new } }
 {
-    let begun = kept_in(list);
-    let turned = turn_of(begun, task);
-    let outcome = turned.outcome;
-    *moved = numbers::turn_number(outcome);
-    *closed = numbers::turn_closed(outcome);
-    let reason = outcome.reason();
+    let turned = turn_of(load(list), task);
+    *moved = numbers::turn_number(&turned.outcome);
+    *closed = numbers::turn_closed(&turned.outcome);
+    // By the number and not by `match`: `turn_list` asks whether it is 0, and a contract sees a refusal as any number, 0 too.
+    let reason = numbers::refused_reason(&turned.outcome);
     if reason == 0 {
-        save(turned.state, list);
+        let _ = save(turned.state, list);
     }
     reason
 }
@@ -277,9 +253,9 @@ pub fn tungwaff_turn(list: &mut [u64], task: usize, moved: &mut u8, closed: &mut
 pub fn tungwaff_ready(list: &[u64], task: &mut usize) -> u8
     ensures { defs.ready_told list.now ≡ record { reason = result; task = task.new } }
 {
-    let ready = ready_in(kept_in(list));
-    *task = numbers::ready_number(ready);
-    numbers::ready_reason(ready)
+    let ready = ready_in(load(list));
+    *task = numbers::ready_number(&ready);
+    numbers::ready_reason(&ready)
 }
 
 // Writes the pairs of offset and length of a schedule's passes. Answers the reason that refused the call, 0 if it was not refused. The
@@ -295,9 +271,9 @@ pub fn tungwaff_passes(
         ≡ record { reason = result; count = count.new; place = place.new; pairs = pairs.new } }
 {
     let answer = schedule::passes(n, schedule, pairs);
-    *count = numbers::passes_count(answer);
-    *place = numbers::passes_place(answer);
-    numbers::passes_reason(answer)
+    *count = numbers::passes_count(&answer);
+    *place = numbers::passes_place(&answer);
+    numbers::passes_reason(&answer)
 }
 
 // The length of the first whole pass that begins at the place; 0 where there is none.
@@ -313,12 +289,12 @@ pub fn tungwaff_shape(shape: usize, n: usize, table: &mut [u8]) -> u8
     ensures { defs.shape_told shape n table.old ≡ record { reason = result; table = table.new } }
 {
     let shaped = parents::shape(shape, n, table);
-    numbers::shape_reason(shaped)
+    numbers::shape_reason(&shaped)
 }
 
 // Tells a play-back's verdict: 1 if every triple is what the defined turn does, else 0; the index of the first triple that is not; and the reason.
-fn tell_verdict(verdict: Verdict, agrees: &mut u8, index: &mut usize) -> u8
-    ensures { defs.verdict_told verdict ≡ record { reason = result; agrees = agrees.new; index = index.new } }
+fn tell_verdict(verdict: &Result<Verdict, Refusal>, agrees: &mut u8, index: &mut usize) -> u8
+    ensures { defs.verdict_told verdict.now ≡ record { reason = result; agrees = agrees.new; index = index.new } }
 {
     *agrees = numbers::verdict_agrees(verdict);
     *index = numbers::verdict_index(verdict);
@@ -341,25 +317,27 @@ pub fn tungwaff_play(
     ensures { defs.play_told (defs.inputs_from kind n modulus parents.now starts.now works.now) trace.now
         ≡ record { reason = result; agrees = agrees.new; index = index.new } }
 {
-    let played = playback::play(Setup { kind, n, modulus }, parents, starts, works, trace);
-    let verdict = played.verdict;
-    tell_verdict(verdict, agrees, index)
+    let setup = Setup { kind, n, modulus };
+    let tables = Tables {
+        parents,
+        starts,
+        works,
+    };
+    let played = playback::play(setup, tables, trace);
+    tell_verdict(&played.verdict, agrees, index)
 }
 
 // Writes the state of a play-back to the list. Gives its verdict, or 10 for a list that is too short; a play-back that was refused leaves the list.
-fn keep_played(played: Played, list: &mut [u64]) -> Verdict
+fn keep_played(played: Played, list: &mut [u64]) -> Result<Verdict, Refusal>
     ensures value { result ≡ defs.kept_verdict played list.old }
     ensures list_after { list.new ≡ defs.kept_played played list.old }
 {
-    let verdict = played.verdict;
-    if numbers::verdict_reason(verdict) != 0 {
-        return verdict;
+    // By the number and not by `?`: `kept_verdict` and `kept_played` ask whether it is 0, and a contract sees a refusal as any number, 0 too.
+    if numbers::verdict_reason(&played.verdict) != 0 {
+        return played.verdict;
     }
-    let short = save(played.state, list);
-    if short != 0 {
-        return Verdict::Refused(short);
-    }
-    verdict
+    save(played.state, list)?;
+    played.verdict
 }
 
 // Plays a trace as `tungwaff_play` does, and writes the state after it, or before the triple that differs, to the list. Reason 10 is that of a list that is too
@@ -380,18 +358,31 @@ pub fn tungwaff_play_state(
         trace.now list.old
         ≡ record { told = record { reason = result; agrees = agrees.new; index = index.new }; list = list.new } }
 {
-    let reported = playback::play(Setup { kind, n, modulus }, parents, starts, works, trace);
+    let setup = Setup { kind, n, modulus };
+    let tables = Tables {
+        parents,
+        starts,
+        works,
+    };
+    let reported = playback::play(setup, tables, trace);
     let verdict = keep_played(reported, list);
-    tell_verdict(verdict, agrees, index)
+    tell_verdict(&verdict, agrees, index)
 }
 
 // The passes that demand 3 promises to raise the least count. Answers the reason that refused the call, 0 if it was not refused.
 pub fn tungwaff_limit(kind: usize, n: usize, works: &[u8], passes: &mut usize) -> u8
     ensures { limit_of kind n works.now ≡ record { reason = result; passes = passes.new } }
 {
-    let promised = bound::limit(kind, n, works);
-    *passes = promised.passes;
-    promised.reason
+    match bound::limit(kind, n, works) {
+        Ok(most) => {
+            *passes = most;
+            0
+        }
+        Err(of_limit) => {
+            *passes = 0;
+            of_limit.number()
+        }
+    }
 }
 
 // What the sheet program reads of a text: parents and schedule go to the first bytes of the buffers, and `entries` and `turns` say how many they are. Answers the
@@ -422,14 +413,26 @@ pub fn tungwaff_read(
           schedule = schedule.new;
         } }
 {
-    let said = reader::read(text, parents, schedule);
-    *kind = said.kind;
-    *n = said.n;
-    *modulus = said.modulus;
-    *entries = said.parents;
-    *turns = said.turns;
-    *place = said.place;
-    said.reason
+    match reader::read(text, parents, schedule) {
+        Ok(said) => {
+            *kind = said.setup.kind;
+            *n = said.setup.n;
+            *modulus = said.setup.modulus;
+            *entries = said.parents;
+            *turns = said.turns;
+            *place = 0;
+            0
+        }
+        Err(refused) => {
+            *kind = 0;
+            *n = 0;
+            *modulus = 0;
+            *entries = 0;
+            *turns = 0;
+            *place = refused.place;
+            refused.refusal.number()
+        }
+    }
 }
 
 // Prints the sheet of a text to the page, with zeros after it, and answers how many bytes it has.

@@ -1,64 +1,79 @@
 // The kept state: a list of numbers, as `snapshot` has it. They are shown one by one, and changed by field and task.
-use crate::print;
 use crate::print::Output;
+use machine::State;
+use snapshot::SIZE;
 
-// As many as snapshot::SIZE.
-pub const NUMBERS: usize = 1029;
-
-pub type Kept = [u64; NUMBERS];
-
-// All numbers, with a space between them.
-pub(crate) fn show(kept: &Kept, out: &mut Output, at: usize) -> usize {
-    let mut k = print::number(kept[0], out, at);
-    let mut i = 1;
-    while i < NUMBERS {
-        k = print::next(kept[i], out, k);
-        i += 1;
-    }
-    k
+// All zeros at first.
+#[derive(Clone, Copy)]
+pub struct Kept {
+    numbers: [u64; SIZE],
 }
 
-// How many tasks have a field of that number; a field of the state itself is at 0.
-fn places(field: u64) -> usize {
-    match field {
-        0..=8 | 14..=20 => 64,
-        9..=13 => 1,
-        _ => 0,
+// A field: where the list has it for task 0, how far on for each further task, for how many tasks it is there, and the most that it holds.
+#[derive(Clone, Copy)]
+struct Field {
+    first: usize,
+    step: usize,
+    tasks: usize,
+    most: u64,
+}
+
+impl Field {
+    // The numbers are no enum: request 6 has them, and the stored requests may not change.
+    // The state's own five, 9 to 13, come first, then the 64 parents, 14, and then each task's fifteen, where 15 comes right after 8.
+    // `count` and the tallies, 1, 16 and 17, have 32 bits, `list`, 4, 64, and any other 8.
+    fn of(number: u64) -> Option<Field> {
+        let (first, step, tasks) = match number {
+            0..=8 => (69 + number as usize, 15, 64),
+            9..=13 => (number as usize - 9, 0, 1),
+            14 => (5, 1, 64),
+            15..=20 => (63 + number as usize, 15, 64),
+            _ => return None,
+        };
+        let most = match number {
+            1 | 16 | 17 => u64::from(u32::MAX),
+            4 => u64::MAX,
+            _ => u64::from(u8::MAX),
+        };
+        Some(Field {
+            first,
+            step,
+            tasks,
+            most,
+        })
     }
 }
 
-// The most that the field's type holds: `count` and the tallies have 32 bits, `list` 64, any other 8.
-fn most(field: u64) -> u64 {
-    match field {
-        1 | 16 | 17 => 4294967295,
-        4 => u64::MAX,
-        _ => 255,
+impl Kept {
+    pub(crate) fn new() -> Kept {
+        Kept { numbers: [0; SIZE] }
     }
-}
 
-// Where the list has a field: the state's own five, the 64 parents, and for each task fifteen, those numbered from 15 on right after 8.
-fn place_of(field: usize, task: usize) -> usize {
-    match field {
-        9..=13 => field - 9,
-        14 => 5 + task % 64,
-        0..=8 => 69 + 15 * (task % 64) + field,
-        15..=20 => 69 + 15 * (task % 64) + (field - 6),
-        _ => NUMBERS,
+    // The state that is kept. Each of its numbers fits.
+    pub(crate) fn state(&self) -> State {
+        snapshot::load::load(&self.numbers).unwrap_or_else(|_| State::zero())
     }
-}
 
-// Changes a field to a value. Answers whether there is such a field, and it can hold the value; else nothing changes.
-pub(crate) fn change(kept: &mut Kept, field: u64, task: usize, value: u64) -> bool {
-    if places(field) <= task {
-        return false;
+    pub(crate) fn keep(&mut self, state: State) {
+        let _ = snapshot::save::save(state, &mut self.numbers);
     }
-    if most(field) < value {
-        return false;
+
+    // All numbers, with a space between them.
+    pub(crate) fn show(&self, out: &mut Output) {
+        if let Some((first, rest)) = self.numbers.split_first() {
+            out.say(*first);
+            out.list(rest);
+        }
     }
-    let at = place_of(field as usize, task);
-    if NUMBERS <= at {
-        return false;
+
+    // Changes a field to a value. None where there is no such field, or it cannot hold the value, and then nothing changes.
+    pub(crate) fn change(&mut self, field: u64, task: usize, value: u64) -> Option<()> {
+        let field = Field::of(field)?;
+        if field.tasks <= task || field.most < value {
+            return None;
+        }
+        let place = field.step.checked_mul(task)?.checked_add(field.first)?;
+        *self.numbers.get_mut(place)? = value;
+        Some(())
     }
-    kept[at] = value;
-    true
 }

@@ -13,9 +13,8 @@
 //     10 KIND N R NP NS NW P.. S.. W..    as 1, with so many parents, starts and work lengths
 //     11 KIND N R NP NS NW P.. S.. W.. B..    a play-back of the bytes B, what it returns is kept    agrees, differs I, or refused K
 //
-// Any other line is answered `bad line` and changes nothing. Standard input is read in blocks. Their bytes go one by one to the line that is being
-// read (text.rt); a line feed ends it, and it is told which request it is (request.rt) and answered (answer.rt, fields.rt). The answers are gathered
-// in a buffer (print.rt).
+// Any other line is answered `bad line` and changes nothing. Standard input is read in blocks, and gathered to lines. The numbers of a line
+// (text.rt) make a request (request.rt), which is answered (answer.rt, fields.rt). The answers are gathered in a buffer (print.rt).
 #![tactic(auto)]
 
 mod answer;
@@ -24,113 +23,78 @@ mod print;
 mod request;
 mod text;
 
-use fields::{Kept, NUMBERS};
-use print::{Output, ROOM};
+use arrayvec::ArrayVec;
+use fields::Kept;
+use print::{Output, Said, Word};
+use request::Request;
 use std::io::{Read, Stdin};
-use text::{Entries, Line, MOST_NUMBERS};
+use text::{LINE_ROOM, Numbers};
 
 // The most bytes of a block.
 const BLOCK: usize = 65536;
 
-// What goes on from block to block: the line being read, the place of the next byte of output, and whether there is more input.
+// The line being read and its numbers, the kept state, and the answers so far.
 #[derive(Drop)]
 struct Replay {
-    line: Line,
-    at: usize,
-    more: bool,
+    line: ArrayVec<u8, LINE_ROOM>,
+    numbers: Numbers,
+    kept: Kept,
+    out: Output,
 }
 
-// Answers the line that ends here.
-fn end_line(
-    kept: &mut Kept,
-    line: Line,
-    entries: &mut Entries,
-    out: &mut Output,
-    at: usize,
-) -> usize {
-    let whole = line.end_number(entries);
-    let tail = print::part(entries, request::head_of(whole.head[0]), whole.count);
-    let k = answer::answer(kept, whole, tail, out, at);
-    print::byte(b'\n', out, k)
-}
+impl Replay {
+    // None for a bad line, with nothing printed.
+    fn answer(&mut self) -> Option<()> {
+        self.numbers.read(self.line.as_slice())?;
+        let request = Request::of(&self.numbers)?;
+        answer::answer(&mut self.kept, request, &mut self.out)
+    }
 
-// Reads the bytes of a block, and answers each line that ends in it.
-fn read_block(
-    replay: Replay,
-    block: &[u8],
-    kept: &mut Kept,
-    entries: &mut Entries,
-    out: &mut Output,
-) -> Replay {
-    let mut line = replay.line;
-    let mut at = replay.at;
-    let mut i = 0;
-    while i < block.len() {
-        let b = block[i];
-        if b == b'\n' {
-            at = end_line(kept, line, entries, out, at);
-            line = text::empty();
-        } else {
-            line = line.byte(b, entries);
+    // Answers the line that ends here.
+    fn end_line(&mut self) {
+        if self.answer().is_none() {
+            self.out.say(Said::Plain(Word::BadLine));
         }
-        i += 1;
+        self.out.line_feed();
+        self.line.clear();
     }
-    Replay {
-        line,
-        at,
-        more: true,
-    }
-}
 
-// Reads once, and answers the lines that came. A read that fails counts as the end of the input.
-fn read_some(
-    replay: Replay,
-    input: &mut Stdin,
-    kept: &mut Kept,
-    entries: &mut Entries,
-    out: &mut Output,
-) -> Replay {
-    let mut block = [0u8; BLOCK];
-    let n = input.read(&mut block).unwrap_or(0);
-    if n == 0 {
-        let mut ended = replay;
-        ended.more = false;
-        return ended;
+    // Takes the bytes of a block, and answers each line that ends in it.
+    fn read_block(&mut self, block: &[u8]) {
+        for &byte in block {
+            if byte == b'\n' {
+                self.end_line();
+            } else {
+                // Past a line's room it is a bad line, whatever follows.
+                let _ = self.line.try_push(byte);
+            }
+        }
     }
-    read_block(replay, &block[..n], kept, entries, out)
-}
 
-// A proved loop has to end, and nothing says that the input does. So the loop counts its turns down, from a number that no run uses up.
-fn read_all(input: &mut Stdin, kept: &mut Kept, entries: &mut Entries, out: &mut Output) -> Replay {
-    let mut replay = Replay {
-        line: text::empty(),
-        at: 0,
-        more: true,
-    };
-    let mut turns = u64::MAX;
-    while turns > 0 && replay.more {
-        replay = read_some(replay, input, kept, entries, out);
-        turns -= 1;
+    // Answers every line of the input. A read that fails counts as its end. A last line needs no line feed.
+    fn read_all(&mut self, mut input: Stdin) {
+        // A proved loop has to end, and nothing says that the input does. No run uses up so many turns.
+        for _ in 0..u64::MAX {
+            let mut block = [0u8; BLOCK];
+            let length = input.read(&mut block).unwrap_or(0);
+            if length == 0 {
+                break;
+            }
+            self.read_block(&block[..length]);
+        }
+        if !self.line.is_empty() {
+            self.end_line();
+        }
+        self.out.flush();
     }
-    replay
-}
-
-// A last line needs no line feed.
-fn finish(replay: Replay, kept: &mut Kept, entries: &mut Entries, out: &mut Output) {
-    let mut at = replay.at;
-    if 0 < replay.line.length {
-        at = end_line(kept, replay.line, entries, out, at);
-    }
-    print::flush(out, at);
 }
 
 fn main(rt: HostRuntime) {
-    let mut kept = [0u64; NUMBERS];
-    let mut entries = [0u8; MOST_NUMBERS];
-    let mut out = Output {
-        buffer: [0u8; ROOM],
-        stdout: rt.stdout(),
+    let mut replay = Replay {
+        line: ArrayVec::new(),
+        numbers: Numbers::new(),
+        kept: Kept::new(),
+        out: Output::new(rt.stdout()),
     };
-    let replay = read_all(&mut rt.stdin(), &mut kept, &mut entries, &mut out);
-    finish(replay, &mut kept, &mut entries, &mut out);
+    replay.read_all(rt.stdin());
 }

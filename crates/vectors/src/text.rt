@@ -1,106 +1,86 @@
-// The line that is being read: decimal numbers below 2^64 of at most 20 digits, separated by single spaces. The first seven numbers stand in the
-// line itself. Each number's low byte goes to a lent buffer, since a schedule or a table has thousands; `wide` tells where that is not all of it.
+// Lines of decimal numbers below 2^64, of at most 20 digits each, with single spaces between them.
+use arrayvec::ArrayVec;
 
 // The most bytes of a line, without the line feed, and the most digits of a number.
 const MOST_BYTES: usize = 1048576;
 
 const MOST_DIGITS: usize = 20;
 
+// Room for a line and one byte more, which tells that it is too long.
+pub const LINE_ROOM: usize = MOST_BYTES + 1;
+
 // The most numbers of a line: those of a request with three tables of 4,096 entries and a trace of 70,000 bytes.
-pub const MOST_NUMBERS: usize = 82295;
+const MOST_NUMBERS: usize = 82295;
 
 // The most numbers of a request before its tables or turns.
-const MOST_HEAD: usize = 7;
+pub const MOST_HEAD: usize = 7;
 
-// The low byte of each number.
-pub type Entries = [u8; MOST_NUMBERS];
-
-#[derive(Clone, Copy)]
-pub struct Line {
-    // Its bytes so far.
-    pub length: usize,
-    // The digits of the number being read, and its value by them.
-    pub digits: usize,
-    pub value: u64,
-    // The numbers before that one, how many they are up to the last above 255, and the first seven.
-    pub count: usize,
-    pub wide: usize,
+// The numbers of a line. Of all but the first seven the low byte alone is kept, since a schedule or a table has thousands.
+#[derive(Drop)]
+pub struct Numbers {
+    // The first seven, as far as the line has them, and then zeros.
     pub head: [u64; MOST_HEAD],
-    // Whether it is no line of numbers.
-    pub bad: bool,
+    // The low byte of each number.
+    bytes: ArrayVec<u8, MOST_NUMBERS>,
+    // How many numbers there are up to the last one above 255.
+    wide: usize,
 }
 
-pub(crate) fn empty() -> Line {
-    Line {
-        length: 0,
-        digits: 0,
-        value: 0,
-        count: 0,
-        wide: 0,
-        head: [0; MOST_HEAD],
-        bad: false,
-    }
-}
-
-impl Line {
-    fn spoilt(mut self) -> Self {
-        self.bad = true;
-        self
+impl Numbers {
+    pub(crate) fn new() -> Numbers {
+        Numbers {
+            head: [0; MOST_HEAD],
+            bytes: ArrayVec::new(),
+            wide: 0,
+        }
     }
 
-    // One more digit of the number.
-    fn digit(mut self, d: u8) -> Self {
-        let low = d as u64;
-        if MOST_DIGITS <= self.digits {
-            return self.spoilt();
+    // Takes the numbers of a line in place of those before. None for what is no line of numbers.
+    pub(crate) fn read(&mut self, line: &[u8]) -> Option<()> {
+        self.head = [0; MOST_HEAD];
+        self.bytes.clear();
+        self.wide = 0;
+        if MOST_BYTES < line.len() {
+            return None;
         }
-        if (u64::MAX - low) / 10 < self.value {
-            return self.spoilt();
+        for digits in line.split(|&byte| byte == b' ') {
+            self.push(number(digits)?)?;
         }
-        self.digits += 1;
-        self.value = self.value * 10 + low;
-        self
+        Some(())
     }
 
-    // The end of the number: a space, or the end of the line.
-    pub(crate) fn end_number(mut self, entries: &mut Entries) -> Self {
-        let k = self.count;
-        let value = self.value;
-        if self.bad {
-            return self;
+    fn push(&mut self, value: u64) -> Option<()> {
+        if let Some(place) = self.head.get_mut(self.bytes.len()) {
+            *place = value;
         }
-        if self.digits == 0 {
-            return self.spoilt();
-        }
-        if MOST_NUMBERS <= k {
-            return self.spoilt();
-        }
-        entries[k] = (value % 256) as u8;
-        if k < MOST_HEAD {
-            self.head[k] = value;
-        }
-        self.count = k + 1;
+        self.bytes.try_push((value % 256) as u8).ok()?;
         if 255 < value {
-            self.wide = k + 1;
+            self.wide = self.bytes.len();
         }
-        self.digits = 0;
-        self.value = 0;
-        self
+        Some(())
     }
 
-    // One more byte of the line.
-    pub(crate) fn byte(mut self, b: u8, entries: &mut Entries) -> Self {
-        if self.bad {
-            return self;
+    // The low bytes of those after the first so many, if these are there, and no more than so many follow, each of them a byte.
+    pub(crate) fn after(&self, head: usize, most: usize) -> Option<&[u8]> {
+        let entries = self.bytes.as_slice().get(head..)?;
+        if most < entries.len() || head < self.wide {
+            return None;
         }
-        if MOST_BYTES <= self.length {
-            return self.spoilt();
-        }
-        self.length += 1;
-        match b {
-            b'0'..=b'9' => self.digit(b - b'0'),
-            b' ' => self.end_number(entries),
-            _ => self.spoilt(),
-        }
+        Some(entries)
     }
+}
+
+// No twin of the reader of the crate `text`: there a number has five digits at most, here 64 bits, and single spaces alone stand between two.
+fn number(digits: &[u8]) -> Option<u64> {
+    if digits.is_empty() || MOST_DIGITS < digits.len() {
+        return None;
+    }
+    let mut value = 0u64;
+    for &digit in digits {
+        if !digit.is_ascii_digit() {
+            return None;
+        }
+        value = value.checked_mul(10)?.checked_add(u64::from(digit - b'0'))?;
+    }
+    Some(value)
 }

@@ -1,11 +1,8 @@
 -- What is held is the sum of the tasks passed.
-use Rattle.std.proofs.Common.{◌-◌, ◌*◌, ◌≡◌, ◌≤◌}
+use Rattle.std.proofs.Common.{◌*◌, ◌≡◌, ◌≤◌}
 use Rattle.bitset.specs.Sum.{sum}
 use Rattle.setup.specs.Tables.{work_of}
 use Rattle.bound.proofs.work_sum.Given as goal
 
 abbrev pub invariant-loop-q : goal.invariant-loop-q
-invariant-loop-q l = (l.q ≤ l.n) × (l.all ≡ sum l.q (work_of l.works)) × (l.all ≤ 255 * l.q)
-
-abbrev pub decreases-loop-q : goal.decreases-loop-q
-decreases-loop-q l = l.n - l.q
+invariant-loop-q l = (l.all ≡ sum l.q (work_of l.works)) × (l.all ≤ 255 * l.q)

@@ -1,60 +1,32 @@
--- `play`: the reasons one after the other, and then the trace from the fresh state.
-use Rattle.std.proofs.Common.{◌≡◌, List, ℕ, sym, ap, ◌∙◌, ◌≢◌}
+-- `play`: a trace that is played, and a play-back that is refused.
+use Rattle.std.proofs.Common.{sym, ap, ◌∙◌}
+use Rattle.reason.specs.Checked.{told_ok, told_err, told_some}
 use Rattle.machine.specs.declared.State.{State}
-use Rattle.machine.specs.declared.Fresh.{Fresh}
-use Rattle.machine.specs.Fresh.{Inputs, inputs_of, fresh_of, fresh_reason, fresh_state}
-use Rattle.machine.specs.FreshLaws.{fresh_reason_lem, fresh_accepted, fresh_valid}
-use Rattle.machine.specs.Range.{Valid}
-use Rattle.playback.specs.Playback.{triples_of, play_from, trace_reason, refused_play, play_of}
-use Rattle.playback.specs.PlaybackLaws.{reason_fresh, reason_trace, play_refused, play_accepted}
+use Rattle.machine.specs.Fresh.{inputs_of}
+use Rattle.playback.specs.Playback.{triples_of, play_from, refused_play}
+use Rattle.playback.specs.PlaybackLaws.{reason_trace, play_refused, play_accepted, trace_taken}
+use Rattle.playback.specs.Claims.{fresh_first}
 use Rattle.playback.proofs.play.Goals as goal
 
--- what the fresh state's call answers
-module _ (i : Inputs) (fresh : Fresh) (is : fresh ≡ fresh_of i) (trace : List ℕ) where
-  reason : fresh.reason ≡ fresh_reason i
-  reason = ap (λ (r : Fresh). r.reason) is ∙ fresh_reason_lem i
+pub play_from-requires : goal.play_from-requires
+play_from-requires c =
+    let a = c.args in
+    let i = inputs_of a.setup a.tables.parents.now a.tables.starts.now a.tables.works.now in
+    let none = told_ok _ c.admitted.ensures.told c.in-Ok.is in
+    let taken = trace_taken a.trace.now (sym (reason_trace i a.trace.now (fresh_first i a.trace.now none)) ∙ none) in
+    record { trace_len_bound = taken.0; whole_triples = taken.1 }
 
-  refused_first : fresh.reason ≢ 0 → refused_play fresh.reason ≡ play_of i trace
-  refused_first ne =
-      let first = reason_fresh i trace (λ z. ne (reason ∙ z)) in
-      ap refused_play (reason ∙ sym first) ∙ sym (play_refused i trace (λ z. ne (reason ∙ sym first ∙ z)))
-
-  -- where it is accepted
-  module _ (none : fresh.reason ≡ 0) where
-    made : fresh.state ≡ fresh_state i
-    made = ap (λ (r : Fresh). r.state) is ∙ fresh_accepted i (sym reason ∙ none)
-
-    in_range : Valid fresh.state
-    in_range = rw made (fresh_valid i (sym reason ∙ none))
-
-    refused_then : (k : ℕ) → k ≡ trace_reason trace → k ≢ 0 → refused_play k ≡ play_of i trace
-    refused_then k e ne =
-        let then = e ∙ sym (reason_trace i trace (sym reason ∙ none)) in
-        ap refused_play then ∙ sym (play_refused i trace (λ z. ne (then ∙ z)))
-
-    played : trace_reason trace ≡ 0 → play_from fresh.state 0 (triples_of trace) ≡ play_of i trace
-    played e =
-        ap (λ (s : State). play_from s 0 (triples_of trace)) made ∙ sym (play_accepted i trace (reason_trace i trace (sym reason ∙ none) ∙ e))
-
-pub returns-then-reason-ne0 : goal.returns-then-reason-ne0
-returns-then-reason-ne0 c =
-    c.refused.ensures
-    ∙ refused_first (inputs_of c.args.setup c.args.parents.now c.args.starts.now c.args.works.now) c.fresh-fresh.result c.fresh-fresh.ensures c.args.trace.now
-    c.if-reason-ne0.true
-
-pub returns-then-of_trace-ne0 : goal.returns-then-of_trace-ne0
-returns-then-of_trace-ne0 c =
-    c.refused-then-of_trace-ne0.ensures
-    ∙ refused_then (inputs_of c.args.setup c.args.parents.now c.args.starts.now c.args.works.now) c.fresh-fresh.result c.fresh-fresh.ensures c.args.trace.now
-    c.if-reason-ne0.false c.trace_reason-of_trace.result c.trace_reason-of_trace.ensures c.if-of_trace-ne0.true
-
-pub play_from-requires-clause-valid : goal.play_from-requires-clause-valid
-play_from-requires-clause-valid c =
-    in_range (inputs_of c.args.setup c.args.parents.now c.args.starts.now c.args.works.now) c.fresh-fresh.result c.fresh-fresh.ensures c.args.trace.now
-    c.if-reason-ne0.false
-
-pub returns : goal.returns
-returns c =
+pub returns-in-Ok : goal.returns-in-Ok
+returns-in-Ok c =
+    let a = c.args in
     c.play_from.ensures
-    ∙ played (inputs_of c.args.setup c.args.parents.now c.args.starts.now c.args.works.now) c.fresh-fresh.result c.fresh-fresh.ensures c.args.trace.now
-    c.if-reason-ne0.false (sym c.trace_reason-of_trace.ensures ∙ c.if-of_trace-ne0.false)
+    ∙ ap (λ (s : State). play_from s 0 (triples_of a.trace.now)) c.in-Ok.ensures.value
+    ∙ sym (play_accepted (inputs_of a.setup a.tables.parents.now a.tables.starts.now a.tables.works.now) a.trace.now (told_ok _ c.admitted.ensures.told c.in-Ok.is))
+
+pub returns-in-Err : goal.returns-in-Err
+returns-in-Err c =
+    let a = c.args in
+    let k = told_err _ c.admitted.ensures.told c.in-Err.is in
+    c.refused.ensures
+    ∙ ap refused_play (sym k)
+    ∙ sym (play_refused (inputs_of a.setup a.tables.parents.now a.tables.starts.now a.tables.works.now) a.trace.now (λ z. told_some _ c.admitted.ensures.told c.in-Err.is (sym k ∙ z)))

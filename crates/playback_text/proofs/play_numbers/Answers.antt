@@ -1,10 +1,9 @@
 -- `play_numbers` meets its contract: the numbers after the sixth are the entries of the tables; their bytes are played as they are.
-use Rattle.std.proofs.Common.{◌≡◌, true, eqb, ℕ, List, map, ◌+◌, ◌-◌, ◌≤◌, length, take, drop, get_or, replicate, ap, ◌∙◌, arith, eq-eqb}
-use Rattle.std.proofs.lemmas.List.{length-drop, length-map, length-replicate, length-take-le, take_all, take_at, take-take, drop-drop, drop-take}
+use Rattle.std.proofs.Common.{◌≡◌, true, eqb, ℕ, List, map, ◌+◌, ◌-◌, ◌≤◌, length, take, drop, get_or, replicate, sym, ap, ◌∙◌, arith, eq-eqb}
+use Rattle.std.proofs.lemmas.List.{length-drop, length-map, length-replicate, length-take-le, take_all, take_at, take-take, drop-take}
 use Rattle.text.specs.Numbers.{low, over}
 use Rattle.text.specs.NumbersLaws.{over_whole, low_first, low_rest}
 use Rattle.machine.specs.Fresh.{inputs_of}
-use Rattle.playback.specs.declared.Played.{Played}
 use Rattle.playback.specs.Playback.{play_of}
 use Rattle.playback_text.specs.Setup.{setup_in}
 use Rattle.playback_text.specs.Answer.{play_in}
@@ -21,61 +20,69 @@ written_first xs k n buffer long room e =
 -- ---- the numbers of a setup, six and then so many
 
 module _ (ns : List ℕ) where
-  -- the lengths of the tables of parents and of starts, and of all three
+  -- the lengths of the tables of parents and of starts
   abbrev parents : ℕ
   parents = get_or ns 3 0
 
   abbrev starts : ℕ
   starts = get_or ns 4 0
 
-  abbrev Long : Type 0
-  Long = length ns - 6 ≡ parents + starts + get_or ns 5 0
+  -- the entries of the three tables as they are lent
+  abbrev entries : List ℕ
+  entries = take (length ns - 6) (drop 6 ns)
 
-  -- the entries of the first two tables, and of the third
+  whole : entries ≡ drop 6 ns
+  whole = take_all (length ns - 6) (drop 6 ns) (omega (arith, length-drop 6 ns))
+
+  -- those of the first two, and of the third
   abbrev tables : List ℕ
   tables = take (parents + starts) (drop 6 ns)
 
   abbrev works : List ℕ
-  works = drop (6 + (parents + starts)) ns
+  works = drop (parents + starts) (drop 6 ns)
 
-  module _ (enough : 6 ≤ length ns) (most : length ns ≤ 32768) (long : Long) where
+  module _ (most : length ns ≤ 32768) (long : length entries ≡ parents + starts + get_or ns 5 0) where
+    size : length (drop 6 ns) ≡ parents + starts + get_or ns 5 0
+    size = ap length (sym whole) ∙ long
+
+    few : length (drop 6 ns) ≤ 32768
+    few = omega (arith, length-drop 6 ns)
+
     -- the bytes of the tables are played as they are
-    plays : (trace : List ℕ) → play_of (inputs_of (record { kind = get_or ns 0 0; n = get_or ns 1 0; modulus = get_or ns 2 0 }) (take parents (map low tables)) (drop parents (map low tables)) (map length_byte works)) trace ≡ play_in (setup_in ns) trace
-    plays trace =
-        let whole : eqb (length ns - 6) (parents + starts + get_or ns 5 0) ≡ true = eq-eqb (length ns - 6) (parents + starts + get_or ns 5 0) long in
+    plays : 6 ≤ length ns → (trace : List ℕ) → play_of (inputs_of (record { kind = get_or ns 0 0; n = get_or ns 1 0; modulus = get_or ns 2 0 }) (take parents (map low tables)) (drop parents (map low tables)) (map length_byte works)) trace ≡ play_in (setup_in ns) trace
+    plays enough trace =
+        let fits : eqb (length (drop 6 ns)) (parents + starts + get_or ns 5 0) ≡ true = eq-eqb (length (drop 6 ns)) (parents + starts + get_or ns 5 0) size in
         rw (
           low_first parents tables,
           low_rest parents tables,
           take-take parents (parents + starts) (drop 6 ns) (omega arith),
           drop-take parents starts (drop 6 ns),
-          ← drop-drop (parents + starts) 6 ns,
           six ns enough,
-          length-drop 6 ns,
-          whole,
+          fits,
         )
-        (byte_play (inputs_of (record { kind = get_or ns 0 0; n = get_or ns 1 0; modulus = get_or ns 2 0 }) (take parents (drop 6 ns)) (take starts (drop parents (drop 6 ns))) (drop (parents + starts) (drop 6 ns))) trace)
+        (byte_play (inputs_of (record { kind = get_or ns 0 0; n = get_or ns 1 0; modulus = get_or ns 2 0 }) (take parents (drop 6 ns)) (take starts (drop parents (drop 6 ns))) works) trace)
 
     -- the buffers' first places
-    tabled : (buffer : List ℕ) → buffer ≡ over (map low (take (6 + (parents + starts) - 6) (drop 6 ns))) (replicate 32768 0) → take (parents + starts) buffer ≡ map low tables
+    tabled : (buffer : List ℕ) → buffer ≡ over (map low (take (parents + starts) entries)) (replicate 32768 0) → take (parents + starts) buffer ≡ map low tables
     tabled buffer e =
-        let same : 6 + (parents + starts) - 6 ≡ parents + starts = omega arith in
-        written_first (map low tables) (parents + starts) 32768 buffer (rw length-map (length-take-le (parents + starts) (drop 6 ns) (omega (arith, length-drop 6 ns)))) (omega arith)
-        (rw same at e)
+        written_first (map low tables) (parents + starts) 32768 buffer (rw length-map (length-take-le (parents + starts) (drop 6 ns) (omega (arith, size)))) (omega (arith, size, few))
+        (rw whole at e)
 
-    worked : (buffer : List ℕ) → buffer ≡ over (map length_byte (take (length ns - (6 + (parents + starts))) works)) (replicate 32768 0) → take (get_or ns 5 0) buffer ≡ map length_byte works
+    worked : (buffer : List ℕ) → buffer ≡ over (map length_byte (take (length entries - (parents + starts)) (drop (parents + starts) entries))) (replicate 32768 0) → take (get_or ns 5 0) buffer ≡ map length_byte works
     worked buffer e =
-        let at = 6 + (parents + starts) in
-        let all : take (length ns - at) works ≡ works = take_all (length ns - at) works (omega (arith, length-drop at ns)) in
-        written_first (map length_byte works) (get_or ns 5 0) 32768 buffer (rw length-map (omega (arith, length-drop at ns))) (omega arith) (rw all at e)
+        let left : length works ≡ length (drop 6 ns) - (parents + starts) = length-drop (parents + starts) (drop 6 ns) in
+        let all : take (length (drop 6 ns) - (parents + starts)) works ≡ works = take_all (length (drop 6 ns) - (parents + starts)) works (omega (arith, left)) in
+        written_first (map length_byte works) (get_or ns 5 0) 32768 buffer (rw length-map (omega (arith, left, size))) (omega (arith, size, few)) (rw (whole, all) at e)
 
 pub returns : goal.returns
 returns c =
     let ns = c.args.numbers.now in
-    let enough = c.requires.in_bounds in
-    let most = c.requires.numbers_len_bound in
-    let long = c.if-count-tables.false in
-    let a : List ℕ → List ℕ → Played = λ xs ws. play_of (inputs_of (record { kind = get_or ns 0 0; n = get_or ns 1 0; modulus = get_or ns 2 0 }) (take (parents ns) xs) (drop (parents ns) xs) ws) c.args.trace.now in
-    c.play_tables.ensures
-    ∙ ap (λ (xs : List ℕ). a xs (take (get_or ns 5 0) c.bytes-2.new.buffer)) (tabled ns enough most long c.bytes.new.buffer c.bytes.ensures)
-    ∙ ap (a (map low (tables ns))) (worked ns enough most long c.bytes-2.new.buffer c.bytes-2.ensures)
-    ∙ plays ns enough most long c.args.trace.now
+    let b = c.bytes.new.buffer in
+    let p = parents ns in
+    let q = starts ns in
+    let tabled_b = tabled ns c.requires c.if-entries-tables.false b c.bytes.ensures in
+    let first : take p b ≡ take p (map low (tables ns)) = sym (take-take p (p + q) b (omega arith)) ∙ ap (take p) tabled_b in
+    let count : p + q - p ≡ q = omega arith in
+    let second : take (p + q - p) (drop p b) ≡ drop p (map low (tables ns)) = ap (λ k. take k (drop p b)) count ∙ sym (drop-take p q b) ∙ ap (drop p) tabled_b in
+    let third = worked ns c.requires c.if-entries-tables.false c.bytes-2.new.buffer c.bytes-2.ensures in
+    c.play.ensures ∙ rw (first, second, third) (plays ns c.requires c.if-entries-tables.false c.in-len6-up.len_at_least c.args.trace.now)

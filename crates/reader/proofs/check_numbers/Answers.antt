@@ -1,11 +1,11 @@
 -- `reader::check_numbers` meets its contract: the bytes of the numbers are refused, or accepted, as the numbers are.
-use Rattle.std.proofs.Common.{◌≡◌, ℕ, List, [], map, ◌-◌, ◌≤◌, min, length, take, drop, get_or, replicate, sym, ap, ◌∙◌, arith, length-drop}
+use Rattle.std.proofs.Common.{◌≡◌, refl, ℕ, List, [], map, ◌-◌, ◌≤◌, min, length, take, drop, get_or, replicate, sym, ap, ◌∙◌, arith, length-drop}
 use Rattle.std.proofs.lemmas.List.{take_all, length-map, length-replicate}
 use Rattle.text.specs.Numbers.{low, over}
 use Rattle.text.specs.NumbersLaws.{over_first, low_first, low_rest}
 use Rattle.machine.specs.Fresh.{inputs_of}
-use Rattle.reader.specs.Read.{Five, parent_count, five_of, checked, said_of}
-use Rattle.reader.specs.ReadLaws.{take_few, drop_few, low_five, low_said, three}
+use Rattle.reader.specs.Read.{Five, parent_count, five_of, checked, answer_of}
+use Rattle.reader.specs.ReadLaws.{take_few, drop_few, low_five, low_answer, three, fewer}
 use Rattle.reader.proofs.check_numbers.Goals as goal
 
 -- the five things that the numbers say
@@ -20,29 +20,36 @@ cut ns bytes first =
       schedule = drop first bytes;
     }
 
+-- the numbers after the third, as they are lent
+abbrev rest : List ℕ → List ℕ
+rest ns = take (length ns - 3) (drop 3 ns)
+
+whole : (ns : List ℕ) → rest ns ≡ drop 3 ns
+whole ns = take_all (length ns - 3) (drop 3 ns) (omega (arith, length-drop 3 ns))
+
 -- cut off the bytes of the numbers, they are the bytes of the five things
-cut_low : (ns : List ℕ) → 3 ≤ length ns → (first : ℕ) → first ≡ min (parent_count (get_or ns 0 0) (get_or ns 1 0)) (length ns - 3)
-    → cut ns (map low (drop 3 ns)) first ≡ low_five (said ns)
-cut_low ns enough first e =
+cut_low : (ns : List ℕ) (first : ℕ) → first ≡ min (parent_count (get_or ns 0 0) (get_or ns 1 0)) (length (rest ns)) → cut ns (map low (drop 3 ns)) first ≡ low_five (said ns)
+cut_low ns first e =
     let k = parent_count (get_or ns 0 0) (get_or ns 1 0) in
-    rw (e, ← length-drop 3 ns, low_first (min k (length (drop 3 ns))) (drop 3 ns), low_rest (min k (length (drop 3 ns))) (drop 3 ns), take_few k (drop 3 ns), drop_few k (drop 3 ns))
+    rw (e, whole ns, low_first (min k (length (drop 3 ns))) (drop 3 ns), low_rest (min k (length (drop 3 ns))) (drop 3 ns), take_few k (drop 3 ns), drop_few k (drop 3 ns))
 
 -- the bytes in the buffer
-filled : (ns buffer : List ℕ) → length ns ≤ 32768 → buffer ≡ over (map low (take (length ns - 3) (drop 3 ns))) (replicate 32768 0) → take (length ns - 3) buffer ≡ map low (drop 3 ns)
+filled : (ns buffer : List ℕ) → length ns ≤ 32768 → buffer ≡ over (map low (rest ns)) (replicate 32768 0) → take (length (rest ns)) buffer ≡ map low (drop 3 ns)
 filled ns buffer few e =
     let xs = drop 3 ns in
     let zeros = replicate {A = ℕ} 32768 0 in
-    let long : length (map low xs) ≡ length ns - 3 = length-map xs low ∙ length-drop 3 ns in
-    let whole : take (length ns - 3) xs ≡ xs = take_all (length ns - 3) xs (omega (arith, length-drop 3 ns)) in
-    ap (take (length ns - 3)) (e ∙ ap (λ (l : List ℕ). over (map low l) zeros) whole)
-    ∙ rw (← long) (over_first (map low xs) zeros (omega (arith, long, length-replicate {A = ℕ} 32768 0)))
+    let long : length (map low xs) ≡ length xs = length-map xs low in
+    rw (e, whole ns, ← long) (over_first (map low xs) zeros (omega (arith, long, length-drop 3 ns, length-replicate {A = ℕ} 32768 0)))
+
+pub returns-in_default : goal.returns-in_default
+returns-in_default c = rw (c.into.ensures, fewer c.args.numbers.now c.in_default.len_below)
 
 pub returns : goal.returns
 returns c =
     let ns = c.args.numbers.now in
     let first = c.parent_count-first.result in
-    let enough = c.requires.in_bounds in
     c.check.ensures
-    ∙ ap (λ (bytes : List ℕ). said_of (checked (cut ns bytes first))) (filled ns c.bytes.new.buffer c.requires.numbers_len_bound c.bytes.ensures)
-    ∙ ap (λ (f : Five). said_of (checked f)) (cut_low ns enough first c.parent_count-first.ensures)
-    ∙ low_said (said ns) ∙ sym (ap said_of (three ns enough))
+    ∙ rw (c.split_at.ensures.front, c.split_at.ensures.back) refl
+    ∙ ap (λ (bytes : List ℕ). answer_of (checked (cut ns bytes first))) (filled ns c.bytes.new.buffer c.requires c.bytes.ensures)
+    ∙ ap (λ (f : Five). answer_of (checked f)) (cut_low ns first c.parent_count-first.ensures)
+    ∙ low_answer (said ns) ∙ sym (ap answer_of (three ns c.in-len3-up.len_at_least))

@@ -1,10 +1,6 @@
 -- The turns passed have their rows, and the counts and the least of them are those of the state that the turns lead to.
-use Rattle.std.proofs.Common.{◌-◌, ◌≤◌, length}
 use Rattle.rows.proofs.Going.{Going}
 use Rattle.rows.proofs.write_turns.Given as goal
 
 abbrev pub invariant-loop-i : goal.invariant-loop-i
-invariant-loop-i l = record { in_range : l.i ≤ length l.tasks; going : Going l.state l.tasks l.log l.fn.rows l.i l.counts l.least l.rows }
-
-abbrev pub decreases-loop-i : goal.decreases-loop-i
-decreases-loop-i l = length l.tasks - l.i
+invariant-loop-i l = Going l.state l.tasks l.log l.fn.rows l.i l.counts l.least l.rows

@@ -20,8 +20,8 @@ risen_more : (f : ℕ → ℕ) (q : ℕ) (all : List ℕ) → q < 64 → all ≡
 risen_more f q all h e = rw (table_more q f, e) (store_next (table q f) 64 q (f q) 0 (length_table q f) h)
 
 pub loop-q-init : goal.loop-q-init
-loop-q-init c = (omega arith, rw (table_none (λ q. get_or c.args.after q 0 - get_or c.args.before q 0)))
+loop-q-init c = rw (table_none (λ q. get_or c.args.after q 0 - get_or c.args.before q 0))
 
 pub loop-q-preserved : goal.loop-q-preserved
 loop-q-preserved c =
-    (omega arith, risen_more (λ q. get_or c.args.after q 0 - get_or c.args.before q 0) c.loop-q.q c.loop-q.all (omega arith) c.loop-q.invariant.1)
+    risen_more (λ q. get_or c.args.after q 0 - get_or c.args.before q 0) c.loop-q.q c.loop-q.all (omega arith) c.loop-q.invariant

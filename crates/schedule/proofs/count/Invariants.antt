@@ -1,10 +1,6 @@
 -- What is left of the schedule has the passes that are not counted yet.
-use Rattle.std.proofs.Common.{length, ◌-◌}
 use Rattle.schedule.proofs.Counting.{Counting}
 use Rattle.schedule.proofs.count.Given as goal
 
 abbrev pub invariant-loop-i : goal.invariant-loop-i
 invariant-loop-i l = Counting l.n l.schedule l.seen l.count l.i
-
-abbrev pub decreases-loop-i : goal.decreases-loop-i
-decreases-loop-i l = length l.schedule - l.i

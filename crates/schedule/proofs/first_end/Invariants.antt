@@ -1,10 +1,6 @@
 -- While no pass has ended, the first pass is that of the turns since the place and those still to come.
-use Rattle.std.proofs.Common.{length, ◌-◌}
 use Rattle.schedule.proofs.Walking.{Walking}
 use Rattle.schedule.proofs.first_end.Given as goal
 
 abbrev pub invariant-loop-i : goal.invariant-loop-i
 invariant-loop-i l = Walking l.n l.schedule l.place l.seen l.i
-
-abbrev pub decreases-loop-i : goal.decreases-loop-i
-decreases-loop-i l = length l.schedule - l.i

@@ -6,7 +6,6 @@ use Rattle.std.proofs.Math.Decide.{dec_lt}
 use Rattle.schedule.specs.FirstPass.{first_pass_of}
 use Rattle.schedule.specs.FirstPassLaws.{first_part}
 use Rattle.schedule.proofs.first_pass.Goals as goal
-use Rattle.schedule.proofs.first_pass.Goals.{then-schedule-place, else-schedule-place}
 
 -- the answer depends on no more than the turns from the place on
 same_part : (n place : ℕ) (ts : List ℕ) → first_pass_of n (min place (length ts)) ts ≡ first_pass_of n place ts
@@ -23,17 +22,12 @@ within : (n place : ℕ) (ts : List ℕ) → length (first_pass_of n place ts) �
 within n place ts = omega (arith, simp (length-take, length-drop) at (ap length (first_part n place ts)))
 
 pub slice_bounds-result-end : goal.slice_bounds-result-end
-slice_bounds-result-end c =
-    let begin : c.if-schedule-place.at ≡ min c.args.place (length c.args.schedule.now)
-    = elim c.if-schedule-place.branch [ then-schedule-place w ↦ omega arith | else-schedule-place w ↦ omega arith ] in
-    omega (arith, within c.args.n c.if-schedule-place.at c.args.schedule.now)
+slice_bounds-result-end c = omega (arith, within c.args.n c.min-at.result c.args.schedule.now)
 
 pub returns-clause-result_value : goal.returns-clause-result_value
 returns-clause-result_value c =
-    let begin : c.if-schedule-place.at ≡ min c.args.place (length c.args.schedule.now)
-    = elim c.if-schedule-place.branch [ then-schedule-place w ↦ omega arith | else-schedule-place w ↦ omega arith ] in
-    let end : c.first_end-end.result - c.if-schedule-place.at ≡ length (first_pass_of c.args.n c.if-schedule-place.at c.args.schedule.now)
+    let end : c.first_end-end.result - c.min-at.result ≡ length (first_pass_of c.args.n c.min-at.result c.args.schedule.now)
     = omega (arith, c.first_end-end.ensures) in
     rw end
-    (sym (first_part c.args.n c.if-schedule-place.at c.args.schedule.now)
-    ∙ ap (λ (p : ℕ). first_pass_of c.args.n p c.args.schedule.now) begin ∙ same_part c.args.n c.args.place c.args.schedule.now)
+    (sym (first_part c.args.n c.min-at.result c.args.schedule.now)
+    ∙ ap (λ (p : ℕ). first_pass_of c.args.n p c.args.schedule.now) c.min-at.ensures ∙ same_part c.args.n c.args.place c.args.schedule.now)

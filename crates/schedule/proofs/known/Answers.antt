@@ -1,15 +1,13 @@
--- The turn at the place settles the question, or hands it to those that follow.
-use Rattle.std.proofs.Common.{sym, ◌∙◌}
-use Rattle.schedule.proofs.Walk.{not_all_tasks, all_tasks_later, all_tasks_end}
+-- The iterator asks each turn.
+use Rattle.std.proofs.Common.{rules, ◌∙◌}
+use Rattle.std.specs.Prelude.{ltb}
+use Rattle.std.proofs.lemmas.Iterator.{YieldsList-from_slice}
+use Rattle.std.proofs.lemmas.Iterator.Search.{all_from_yields_List}
+use borrow.Author.Tests.{tests}
+use Rattle.schedule.proofs.Unknown.{known_listed}
 use Rattle.schedule.proofs.known.Goals as goal
 
-pub returns-then-n-schedule : goal.returns-then-n-schedule
-returns-then-n-schedule c =
-    sym (c.loop-i.invariant ∙ not_all_tasks c.args.n c.args.schedule.now c.loop-i.i c.loop-i-test.true c.if-n-schedule.true)
-
-pub loop-i-preserved : goal.loop-i-preserved
-loop-i-preserved c =
-    c.loop-i.invariant ∙ all_tasks_later c.args.n c.args.schedule.now c.loop-i.i c.loop-i-test.true c.if-n-schedule.false
-
 pub returns : goal.returns
-returns c = sym (c.loop-i.invariant ∙ all_tasks_end c.args.n c.args.schedule.now c.loop-i.i c.loop-i-test.false)
+returns c =
+    all_from_yields_List (λ t. ltb t c.args.n) _ _ c.all.result c.all.ensures.ran (YieldsList-from_slice c.args.turns.now cc) (λ x b q k. search (rules, tests))
+    ∙ known_listed c.args.n c.args.turns.now

@@ -1,12 +1,14 @@
--- Where every turn before is a task, the first that is none is here; at the end there is none.
-use Rattle.schedule.proofs.Unknown.{unknown_is, unknown_none}
-use Rattle.std.proofs.Common.{◌≡◌, length, arith}
+-- The iterator finds the first turn that is no task.
+use Rattle.std.proofs.Common.{◌≡◌, ◌∙◌, rules}
+use Rattle.std.specs.Prelude.{position, leb}
+use Rattle.std.proofs.lemmas.Iterator.{YieldsList-from_slice}
+use Rattle.std.proofs.lemmas.Iterator.Search.{position_from_yields_List}
+use borrow.Author.Tests.{tests}
+use Rattle.schedule.proofs.Unknown.{unknown_position}
 use Rattle.schedule.proofs.unknown_at.Goals as goal
-
-pub returns-then-n-schedule : goal.returns-then-n-schedule
-returns-then-n-schedule c = unknown_is _ _ _ c.loop-at.invariant.1 c.loop-at-test.true c.if-n-schedule.true
 
 pub returns : goal.returns
 returns c =
-    let e : c.loop-at.at ≡ length c.args.schedule.now = omega arith in
-    unknown_none _ _ _ c.loop-at.invariant.1 e
+    let found : c.position.result ≡ position (λ t. leb c.args.n t) c.args.schedule.now
+    = position_from_yields_List (λ t. leb c.args.n t) _ _ c.position.result c.position.ensures.ran (YieldsList-from_slice c.args.schedule.now cc) (λ x b q k. search (rules, tests)) in
+    c.unwrap_or.ensures ∙ rw found (unknown_position c.args.n c.args.schedule.now)

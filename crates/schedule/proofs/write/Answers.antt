@@ -6,6 +6,7 @@ use Rattle.schedule.specs.PassesLaws.{all_known}
 use Rattle.schedule.proofs.Walk.{seen_none}
 use Rattle.schedule.proofs.Writing.{written, two-more, ended, not_yet}
 use Rattle.schedule.proofs.write.Goals as goal
+use Rattle.schedule.proofs.write.Goals.{then-seen-every, else-seen-every}
 
 pub loop-i-init : goal.loop-i-init
 loop-i-init c =
@@ -33,17 +34,18 @@ bounds-pairs-at-then-seen-every c =
     = sym c.with-seen.ensures ∙ c.if-seen-every.true ∙ c.all-every.ensures in
     rw length-set (omega (arith, two-more c.loop-i.invariant c.requires.n_bound c.loop-i-test.true turn full))
 
-pub loop-i-preserved-then-seen-every : goal.loop-i-preserved-then-seen-every
-loop-i-preserved-then-seen-every c =
-    let turn = (all_known c.args.n c.args.schedule.now).0 c.requires.schedule_value c.loop-i.i c.loop-i-test.true in
-    ended c.loop-i.invariant c.requires.n_bound c.loop-i-test.true turn (sym c.with-seen.ensures ∙ c.if-seen-every.true ∙ c.all-every.ensures)
-
 pub loop-i-preserved : goal.loop-i-preserved
 loop-i-preserved c =
     let turn = (all_known c.args.n c.args.schedule.now).0 c.requires.schedule_value c.loop-i.i c.loop-i-test.true in
-    rw c.with-seen.ensures
-    (not_yet c.loop-i.invariant c.requires.n_bound c.loop-i-test.true turn
-    (λ e. c.if-seen-every.false (c.with-seen.ensures ∙ e ∙ sym c.all-every.ensures)))
+    elim c.if-seen-every.branch [
+      | then-seen-every w ↦
+          rw (w.seen-is, w.pairs-is, w.begin-is, w.at-is)
+          (ended c.loop-i.invariant c.requires.n_bound c.loop-i-test.true turn (sym c.with-seen.ensures ∙ w.if-seen-every.true ∙ c.all-every.ensures))
+      | else-seen-every w ↦
+          rw (w.seen-is, w.pairs-is, w.begin-is, w.at-is, c.with-seen.ensures)
+          (not_yet c.loop-i.invariant c.requires.n_bound c.loop-i-test.true turn
+          (λ e. w.if-seen-every.false (c.with-seen.ensures ∙ e ∙ sym c.all-every.ensures)))
+    ]
 
 pub returns : goal.returns
 returns c = written c.loop-i.invariant c.loop-i-test.false

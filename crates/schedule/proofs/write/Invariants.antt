@@ -1,10 +1,6 @@
 -- What is written, what is still to come and the rest of the list are the list that is asked.
-use Rattle.std.proofs.Common.{length, ◌-◌}
 use Rattle.schedule.proofs.Writing.{Writing}
 use Rattle.schedule.proofs.write.Given as goal
 
 abbrev pub invariant-loop-i : goal.invariant-loop-i
 invariant-loop-i l = Writing l.n l.schedule l.fn.pairs l.pairs l.seen l.begin l.at l.i
-
-abbrev pub decreases-loop-i : goal.decreases-loop-i
-decreases-loop-i l = length l.schedule - l.i

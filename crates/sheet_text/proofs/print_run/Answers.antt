@@ -21,9 +21,9 @@ shown s ts ok few all passes r p e =
     ∙ ran_table s ts ok few all (replicate 65536 0) (omega (arith, length-replicate {A = ℕ} 65536 0)) r e
 
 pub table-requires : goal.table-requires
-table-requires c = let known = range c.args.state c.requires.valid in (known.some, known.few)
+table-requires c = let known = range c.args.begin.state c.args.begin.valid in (known.some, known.few)
 
 pub returns : goal.returns
 returns c =
-    rw (← shown c.args.state c.args.schedule.now c.requires.valid c.requires.schedule_len_bound.0 c.requires.schedule_len_bound.1 c.pass_count-passes.result c.run-ran.result c.pass_count-passes.ensures c.run-ran.ensures.value)
+    rw (← shown c.args.begin.state c.args.schedule.now c.args.begin.valid c.requires.0 c.requires.1 c.pass_count-passes.result c.run-ran.result c.pass_count-passes.ensures c.run-ran.ensures.value)
     c.table.ensures

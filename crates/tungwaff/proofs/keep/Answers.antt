@@ -7,11 +7,11 @@ use Rattle.tungwaff.proofs.keep.Goals as goal
 pub returns-then-refused : goal.returns-then-refused
 unfolding kept_after
 returns-then-refused c =
-    let refused : is_refused c.args.ran.ending ≡ true = sym c.refused.ensures ∙ c.if-refused.true in
+    let refused : is_refused c.args.ran.now.ending ≡ true = sym c.refused.ensures ∙ c.if-refused.true in
     rw refused
 
 pub returns : goal.returns
 unfolding kept_after
 returns c =
-    let made : is_refused c.args.ran.ending ≡ false = sym c.refused.ensures ∙ c.if-refused.false in
+    let made : is_refused c.args.ran.now.ending ≡ false = sym c.refused.ensures ∙ c.if-refused.false in
     rw made c.save.ensures.list_after

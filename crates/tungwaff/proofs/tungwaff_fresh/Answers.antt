@@ -1,23 +1,28 @@
 -- `tungwaff_fresh` meets its contract: no state, or one that is saved.
-use Rattle.std.proofs.Common.{◌≡◌, sym, ap, ◌∙◌, eq-eqb, ne_eqb}
+use Rattle.std.proofs.Common.{sym, ap, ◌∙◌, eq-eqb, ne_eqb}
+use Rattle.reason.specs.Checked.{answered_ok, answered_err}
+use Rattle.machine.specs.declared.State.{State}
 use Rattle.machine.specs.Fresh.{Inputs, fresh_of}
-use Rattle.snapshot.specs.Snapshot.{saved_to}
-use Rattle.tungwaff.specs.declared.Begun.{Begun}
+use Rattle.snapshot.specs.Snapshot.{room_reason, saved_to}
+use Rattle.numbers.specs.Numbers.{checked_back}
 use Rattle.tungwaff.specs.Entry.{inputs_from, fresh_list}
 use Rattle.tungwaff.proofs.tungwaff_fresh.Goals as goal
 
-pub returns-then-reason-ne0 : goal.returns-then-reason-ne0
+pub returns-in-Ok : goal.returns-in-Ok
 unfolding fresh_list
-returns-then-reason-ne0 c =
-    let i : Inputs = inputs_from c.args.kind c.args.n c.args.modulus c.args.parents.now c.args.starts.now c.args.works.now in
-    let why : c.freshly-begun.result.reason ≡ (fresh_of i).reason = ap (λ (b : Begun). b.reason) c.freshly-begun.ensures in
-    rw (why, ne_eqb (fresh_of i).reason 0 (λ z. c.if-reason-ne0.true (why ∙ z)))
+returns-in-Ok c =
+    let a = c.args in
+    let i : Inputs = inputs_from a.kind a.n a.modulus a.parents.now a.starts.now a.works.now in
+    let made = answered_ok (fresh_of i).reason (sym c.freshly.ensures ∙ c.in-Ok.is) in
+    let test = eq-eqb (fresh_of i).reason 0 made.0 in
+    let saved = c.save.ensures.list_after ∙ ap (λ (s : State). saved_to s a.list.now) (sym made.1) in
+    let room = c.refused_reason.ensures ∙ rw c.save.ensures.value (checked_back (room_reason a.list.now)) in
+    rw test (λ j. record { reason = sym room j; list = sym saved j })
 
-pub returns : goal.returns
+pub returns-in-Err : goal.returns-in-Err
 unfolding fresh_list
-returns c =
-    let i : Inputs = inputs_from c.args.kind c.args.n c.args.modulus c.args.parents.now c.args.starts.now c.args.works.now in
-    let why : c.freshly-begun.result.reason ≡ (fresh_of i).reason = ap (λ (b : Begun). b.reason) c.freshly-begun.ensures in
-    let good = eq-eqb (fresh_of i).reason 0 (sym why ∙ c.if-reason-ne0.false) in
-    let saved = ap (λ (b : Begun). saved_to b.state c.args.list.now) c.freshly-begun.ensures in
-    rw (c.save.ensures.value, c.save.ensures.list_after, saved, good)
+returns-in-Err c =
+    let a = c.args in
+    let i : Inputs = inputs_from a.kind a.n a.modulus a.parents.now a.starts.now a.works.now in
+    let why = answered_err (fresh_of i).state (fresh_of i).reason (sym c.freshly.ensures ∙ c.in-Err.is) in
+    rw (ne_eqb (fresh_of i).reason 0 why.1, why.0, c.number.ensures)

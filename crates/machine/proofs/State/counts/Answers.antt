@@ -1,18 +1,11 @@
-use Rattle.std.proofs.Common.{arith}
-use Rattle.bitset.specs.Table.{table}
-use Rattle.bitset.specs.TableLaws.{length_table, table_none, table_more}
-use Rattle.machine.specs.Least.{count_of}
-use Rattle.machine.proofs.Arrays.{store_next}
+use Rattle.std.proofs.Common.{ℕ, rules}
+use Rattle.lines.specs.declared.Task.{Task}
+use Rattle.lines.specs.Setters.{zero_task}
+use Rattle.machine.proofs.Arrays.{table_mapped}
 use Rattle.machine.proofs.State.counts.Goals as goal
 
-pub loop-q-init : goal.loop-q-init
-loop-q-init c = record { in_range = omega arith; filled = rw (table_none (count_of c.args.self)) }
+abbrev count : Task → ℕ
+count t = t.count
 
-pub loop-q-preserved : goal.loop-q-preserved
-loop-q-preserved c =
-    let f = count_of c.args.self in
-    let q = c.loop-q.q in
-    record {
-      in_range = omega arith;
-      filled = rw (table_more q f, c.loop-q.invariant.filled) (store_next (table q f) 64 q (f q) 0 (length_table q f) (omega arith));
-    }
+pub returns : goal.returns
+returns c = table_mapped count zero_task (λ p q x y h. search rules) c.map.ensures.items

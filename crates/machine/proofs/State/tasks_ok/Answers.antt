@@ -1,4 +1,4 @@
-use Rattle.std.proofs.Common.{◌≡◌, ◌&&◌, ℕ, ◌+◌, Bool, refl, arith, add-one}
+use Rattle.std.proofs.Common.{◌≡◌, ◌&&◌, ℕ, ◌+◌, Bool, refl, add-one}
 use Rattle.setup.specs.Range.{place_ok}
 use Rattle.machine.specs.declared.State.{State}
 use Rattle.machine.specs.Setters.{task_at, moves_at, waits_at}
@@ -15,10 +15,8 @@ one_more s q ok place moves waits eo ep em ew = rw (add-one q, eo, ep, em, ew)
 
 pub loop-q-init : goal.loop-q-init
 unfolding tasks_ok
-loop-q-init c = record { in_range = omega arith; passed = refl }
+loop-q-init c = refl
 
 pub loop-q-preserved : goal.loop-q-preserved
-loop-q-preserved c = record {
-  in_range = omega arith;
-  passed = one_more c.args.self c.loop-q.q _ _ _ _ c.loop-q.invariant.passed c.place_ok.ensures c.tally_ok.ensures c.tally_ok-in-loop-q.ensures;
-}
+loop-q-preserved c =
+    one_more c.args.self c.loop-q.q _ _ _ _ c.loop-q.invariant c.place_ok.ensures c.tally_ok.ensures c.tally_ok-in-loop-q.ensures

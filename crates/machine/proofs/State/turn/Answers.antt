@@ -1,18 +1,22 @@
 -- A return for each refusal, and one for the step.
-use Rattle.std.proofs.Common.{eq-eqb, ne_eqb, lt-ltb, le-ltb, sym, ◌∙◌, arith}
+use Rattle.std.proofs.Common.{eq-eqb, lt-ltb, le-ltb}
+use Rattle.reason.specs.Checked.{told_ok, told_err, told_refused}
 use Rattle.machine.specs.Turn.{turn_of}
 use Rattle.machine.proofs.State.turn.Goals as goal
 
-pub returns-then-reason-ne0 : goal.returns-then-reason-ne0
+pub returns-in-Ok : goal.returns-in-Ok
 unfolding turn_of
-returns-then-reason-ne0 c = rw (← c.check-reason.ensures, ne_eqb _ 0 c.if-reason-ne0.true)
+returns-in-Ok c =
+    rw (eq-eqb _ 0 (told_ok _ c.valid.ensures.told c.in-Ok.is), lt-ltb c.args.task c.args.self.n c.if-task-self.true)
+    (rw c.in-Ok.ensures.value at c.step.ensures)
 
-pub returns-then-self-task : goal.returns-then-self-task
+pub returns-in-Ok-2 : goal.returns-in-Ok-2
 unfolding turn_of
-returns-then-self-task c =
-    rw (eq-eqb _ 0 (sym c.check-reason.ensures ∙ c.if-reason-ne0.false), le-ltb c.args.task c.args.self.n (omega arith))
+returns-in-Ok-2 c =
+    rw (eq-eqb _ 0 (told_ok _ c.valid.ensures.told c.in-Ok-2.is), le-ltb c.args.task c.args.self.n c.if-task-self.false)
+    (rw c.into.ensures at c.refused.ensures)
 
-pub returns : goal.returns
+pub returns-in-Err : goal.returns-in-Err
 unfolding turn_of
-returns c =
-    rw (eq-eqb _ 0 (sym c.check-reason.ensures ∙ c.if-reason-ne0.false), lt-ltb c.args.task c.args.self.n (omega arith)) c.step.ensures
+returns-in-Err c =
+    rw (told_refused _ c.valid.ensures.told c.in-Err.is, told_err _ c.valid.ensures.told c.in-Err.is) c.refused-in-Err.ensures

@@ -1,16 +1,10 @@
-use Rattle.std.proofs.Common.{ℕ, ◌+◌, ◌≡◌, sym, arith}
-use Rattle.snapshot.specs.SnapshotLaws.{fit_none, fit_more}
+use Rattle.std.proofs.Common.{◌∙◌, leb, take, arith, rules, tests}
+use Rattle.std.proofs.lemmas.Iterator.{YieldsList-from_slice}
+use Rattle.std.proofs.lemmas.Iterator.Search.{all_from_yields_List}
+use Rattle.snapshot.proofs.All.{all_bytes}
 use Rattle.snapshot.proofs.load.head_fits.Goals as goal
 
--- a byte's most
-abbrev bytes : ℕ → ℕ
-bytes k = 255
-
-pub loop-i-init : goal.loop-i-init
-loop-i-init c = record { in_range = omega arith; told = sym (fit_none c.args.list.now 0 bytes) }
-
-pub loop-i-preserved : goal.loop-i-preserved
-loop-i-preserved c =
-    let i = c.loop-i.i in
-    let z : 0 + i ≡ i = omega arith in
-    record { in_range = omega arith; told = rw (fit_more c.args.list.now 0 bytes i, ← c.loop-i.invariant.told, z) }
+pub returns : goal.returns
+returns c =
+    let list = c.args.list.now in
+    all_from_yields_List (λ x. leb x 255) _ _ _ c.all.ensures.ran (YieldsList-from_slice (take 69 list) cc) (λ x b q k. search (rules, tests)) ∙ all_bytes list 69 (omega arith)

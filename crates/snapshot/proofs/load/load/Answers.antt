@@ -1,27 +1,36 @@
-use Rattle.std.proofs.Common.{◌≡◌, Bool, true, false, ◌&&◌, sym, ap, ◌∙◌}
-use Rattle.snapshot.specs.Snapshot.{head_fits, tasks_fit}
+use Rattle.std.proofs.Common.{◌≡◌, ◌≤◌, ◌<◌, sym, ap, ◌∙◌, List, ℕ, [], length, take, append-nil, length-take-le, true, false, rules, arith}
+use Rattle.std.specs.Prelude.{Err}
+use Rattle.machine.specs.Fresh.{zero_state}
+use Rattle.snapshot.specs.Snapshot.{size, fits, state_from, load_answer, load_of}
 use Rattle.snapshot.specs.SnapshotLaws.{load_short, load_unfit, load_fits}
+use Rattle.snapshot.specs.RoundTrip.{load_first}
 use Rattle.snapshot.proofs.load.load.Goals as goal
 
-pub returns-then-list-lt-SIZE : goal.returns-then-list-lt-SIZE
-returns-then-list-lt-SIZE c = c.refused.ensures ∙ sym (load_short c.args.list.now c.if-list-lt-SIZE.true)
+-- the numbers that a list begins with are loaded as the list is
+module _ (list numbers : List ℕ) (room : size ≤ length list) (first : numbers ≡ take size list) where
+  long : size ≤ length numbers
+  long = omega (arith, ap length first, length-take-le size list room)
 
-pub returns-then-not-head_fits : goal.returns-then-not-head_fits
-returns-then-not-head_fits c =
-    let list = c.args.list.now in
-    let head : head_fits list ≡ false = cc in
-    c.refused-then-not-head_fits.ensures ∙ sym (load_unfit list c.if-list-lt-SIZE.false (ap (λ (b : Bool). b && tasks_fit list 64) head))
+  same : load_of numbers ≡ load_of list
+  same = ap load_of first ∙ rw append-nil at (load_first list [] room)
 
-pub returns-then-not-tasks_fit : goal.returns-then-not-tasks_fit
-returns-then-not-tasks_fit c =
-    let list = c.args.list.now in
-    let head : head_fits list ≡ true = cc in
-    let tasks : tasks_fit list 64 ≡ false = cc in
-    c.refused-then-not-tasks_fit.ensures ∙ sym (load_unfit list c.if-list-lt-SIZE.false (rw (head, tasks)))
+  unfit : fits numbers ≡ false → record { state = zero_state; reason = 7 } ≡ load_of list
+  unfit e = sym (load_unfit numbers long e) ∙ same
+
+  fit : fits numbers ≡ true → record { state = state_from numbers; reason = 0 } ≡ load_of list
+  fit e = sym (load_fits numbers long e) ∙ same
+
+pub returns-in_err-list : goal.returns-in_err-list
+returns-in_err-list c =
+    let short : length c.args.list.now < size = search rules in
+    rw (load_short c.args.list.now short) (search rules)
+
+pub returns-in_err-numbers : goal.returns-in_err-numbers
+returns-in_err-numbers c =
+    let told : c.from_residual-in_err-numbers.result ≡ Err 7 = search rules in
+    told ∙ ap load_answer (unfit c.args.list.now c.in_ok-list.list.now (search rules) (search rules) (search rules))
 
 pub returns : goal.returns
 returns c =
-    let list = c.args.list.now in
-    let head : head_fits list ≡ true = cc in
-    let tasks : tasks_fit list 64 ≡ true = cc in
-    rw c.state_from.ensures (sym (load_fits list c.if-list-lt-SIZE.false (rw (head, tasks))))
+    let numbers = c.in_ok-numbers.numbers in
+    rw c.state.ensures (ap load_answer (fit c.args.list.now numbers.list.now (search rules) (search rules) numbers.fit))

@@ -1,10 +1,12 @@
-use Rattle.std.proofs.Common.{sym, arith}
-use Rattle.snapshot.specs.SnapshotLaws.{tasks_none, tasks_more}
+use Rattle.std.proofs.Common.{◌∙◌, refl, rules, tests}
+use Rattle.std.proofs.lemmas.Iterator.{YieldsList-from_range}
+use Rattle.std.proofs.lemmas.Iterator.Search.{all_from_yields_List}
+use Rattle.snapshot.specs.Snapshot.{most_in, task_place, fit_from}
+use Rattle.snapshot.proofs.All.{all_tasks}
 use Rattle.snapshot.proofs.load.tasks_fit.Goals as goal
 
-pub loop-q-init : goal.loop-q-init
-loop-q-init c = record { in_range = omega arith; told = sym (tasks_none c.args.list.now) }
-
-pub loop-q-preserved : goal.loop-q-preserved
-loop-q-preserved c =
-    record { in_range = omega arith; told = rw (tasks_more c.args.list.now c.loop-q.q, ← c.loop-q.invariant.told, c.task_fits-ok.ensures) }
+pub returns : goal.returns
+returns c =
+    let list = c.args.list.now in
+    all_from_yields_List (λ q. fit_from list (task_place q) most_in 15) _ _ _ c.all.ensures.ran (YieldsList-from_range 0 64 64 refl refl) (λ x b q k. search (rules, tests))
+    ∙ all_tasks list 64

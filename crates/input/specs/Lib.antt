@@ -1,2 +1,0 @@
--- What reading a descriptor promises.
-pub mod Read

@@ -1,0 +1,2 @@
+-- The numbers of kinds.
+pub mod Numbers
