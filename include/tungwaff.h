@@ -43,10 +43,10 @@
  * What a call needs, in KiB, rounded up: measured with N 64, every table and the longest input, the most over all kinds. It isn't proved,
  * and a library that another compiler built may need more.
  *
- *     sheet 280    play       45    run    41    limit       1
- *     read  167    play_state 45    resume 39    passes      1
- *     turn   27    fresh       9    rows   31    first_pass  1
- *     ready  16                                  shape       1
+ *     sheet 277    play       38    run    35    limit       1
+ *     read  167    play_state 38    resume 33    passes      1
+ *     turn   20    fresh       9    rows   20    first_pass  1
+ *     ready  14                                  shape       1
  *
  * memcpy, memmove and memset are in it, but not what a dynamic linker needs where it looks them up only when they are first called.
  */

@@ -92,6 +92,7 @@ pub(crate) fn work(mut task: Task) -> Effect
 }
 
 // Where line 13 of the kinds that count arrivals leads: the last task to arrive sets them back at 14, another awaits the sense at 16.
+#[inline(always)]
 pub(crate) fn after_arrival(last: bool) -> u8
     ensures { result ≡ pick last 14 16 }
 {
@@ -99,6 +100,7 @@ pub(crate) fn after_arrival(last: bool) -> u8
 }
 
 // 14 of the kinds that count arrivals: so many tasks have arrived, or are still to, as before the round.
+#[inline(always)]
 pub(crate) fn set_back(arrivals: u8, mut task: Task) -> Effect
     ensures { result ≡ defs.moves (with_line task 15) (Arrivals arrivals) }
 {
@@ -107,6 +109,7 @@ pub(crate) fn set_back(arrivals: u8, mut task: Task) -> Effect
 }
 
 // 15 of the kinds that count arrivals: the shared sense is turned to this one.
+#[inline(always)]
 pub(crate) fn turn_sense(sense: u8, mut task: Task) -> Effect
     ensures { result ≡ defs.moves (with_line task 11) (Sense sense) }
 {
@@ -115,6 +118,7 @@ pub(crate) fn turn_sense(sense: u8, mut task: Task) -> Effect
 }
 
 // 16 of the kinds that count arrivals: awaits that the shared sense is the one that the round ends with.
+#[inline(always)]
 pub(crate) fn await_sense(shared: u8, ended: u8, task: Task) -> Effect
     ensures { result ≡ defs.awaits (eqb shared ended) task (defs.moves (with_line task 11) Nothing) }
 {

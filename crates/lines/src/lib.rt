@@ -39,7 +39,7 @@ pub struct Task {
 }
 
 // What a line may read besides tasks and parents: the kind, the number of tasks, and the words that all share. The kind is a number and no `Kind`: a
-// state that a caller hands in may have any, and machine's `State::valid` refuses one that there is not.
+// state that a caller hands in may have any, and machine's `State::check` refuses one that there is not.
 #[derive(Clone, Copy)]
 pub struct Shared {
     pub kind: u8,

@@ -9,10 +9,10 @@ use reason::Refusal;
 impl ValidState {
     // The least task that can move: one whose tally of moves is at its limit can't. Whether it would close a round is not
     // asked. A loop and no `find`: what `effect` requires would be its closure's to show, and that is no plainer.
-    fn able(self) -> Option<usize>
-        ensures { Ok result ≡ defs.ready_from self.state self.state.n 0 }
+    fn able(&self) -> Option<usize>
+        ensures { Ok result ≡ defs.ready_from self.now.state self.now.state.n 0 }
     {
-        let state = self.state;
+        let state = &self.state;
         for q in 0..state.n as usize {
             let effect = self.effect(q);
             let act = effect.act;
@@ -31,8 +31,8 @@ impl State {
     fn asked(self) -> Result<Option<usize>, Refusal>
         ensures { result ≡ (defs.ready_of self).ready }
     {
-        let valid = self.valid()?;
-        Ok(valid.able())
+        self.check()?;
+        Ok(ValidState { state: self }.able())
     }
 
     // Who can move; the state is handed back as it was.

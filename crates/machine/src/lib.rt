@@ -20,7 +20,7 @@ use reason::Refusal;
 pub const MAX_TALLY: u32 = 4_000_000_000;
 
 // A barrier: its kind, its n tasks, the words that they share, for a tree the table of parents, and how often each task has moved and waited
-// since the fresh state. Tasks, parents and tallies from n on are 0. The kind is a number, since a caller may hand in any, which `State::valid`
+// since the fresh state. Tasks, parents and tallies from n on are 0. The kind is a number, since a caller may hand in any, which `State::check`
 // refuses; the tallies stand beside the tasks and not in them, since the definitions of a state and its laws (`state_ok`, `turn_tallies`) go by these
 // fields.
 #[derive(Clone, Copy)]

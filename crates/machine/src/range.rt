@@ -39,8 +39,8 @@ fn tally_ok(n: usize, q: usize, tally: u32) -> bool
 
 impl State {
     // What a line may read besides tasks and parents.
-    pub(crate) fn shared(self) -> Shared
-        ensures { result ≡ defs.shared_of self }
+    pub(crate) fn shared(&self) -> Shared
+        ensures { result ≡ defs.shared_of self.now }
     {
         Shared {
             kind: self.kind,
@@ -52,8 +52,8 @@ impl State {
     }
 
     // Whether the task at q is as it must be there.
-    fn place_ok(self, q: usize, task: Task) -> bool
-        ensures { result ≡ place_ok (defs.shared_of self) (defs.table_of self) q task }
+    fn place_ok(&self, q: usize, task: Task) -> bool
+        ensures { result ≡ place_ok (defs.shared_of self.now) (defs.table_of self.now) q task }
     {
         let parents = self.parents;
         let length = table_length(self.n);
@@ -62,8 +62,8 @@ impl State {
 
     // Whether all 64 tasks and their tallies are as they must be. A loop and no `all`, which would be no plainer: they stand in three arrays, so that
     // it would go over the numbers too.
-    fn tasks_ok(self) -> bool
-        ensures { result ≡ defs.tasks_ok self 64 }
+    fn tasks_ok(&self) -> bool
+        ensures { result ≡ defs.tasks_ok self.now 64 }
     {
         let n = self.n as usize;
         let mut ok = true;
@@ -76,8 +76,8 @@ impl State {
     }
 
     // Whether the parents are in range: for a tree a table that its check accepts, and 0 after it; else all 0.
-    fn parents_ok(self) -> bool
-        ensures { result ≡ defs.parents_ok self }
+    fn parents_ok(&self) -> bool
+        ensures { result ≡ defs.parents_ok self.now }
     {
         let parents = self.parents;
         if self.kind as usize != Kind::Tree.number() {
@@ -89,10 +89,21 @@ impl State {
     }
 
     // Whether every field is in range.
-    fn in_range(self) -> bool
-        ensures { result ≡ defs.state_ok self }
+    fn in_range(&self) -> bool
+        ensures { result ≡ defs.state_ok self.now }
     {
         setup::range::shared_ok(self.shared()) & self.parents_ok() & self.tasks_ok()
+    }
+
+    // Whether a field is out of range, and so the state refused. It is lent: the turns and the runs that ask go on with the state as it stands.
+    pub fn check(&self) -> Result<(), Refusal>
+        ensures { result ≡ checked (defs.check_state self.now) }
+    {
+        if self.in_range() {
+            Ok(())
+        } else {
+            Err(Reason::Range.into())
+        }
     }
 
     // The state as one in range; refused where a field is out of range.
@@ -100,10 +111,7 @@ impl State {
         ensures told { unit_of result ≡ checked (defs.check_state self) }
         ensures value { IfOk result (λ valid. valid.state ≡ self) }
     {
-        if self.in_range() {
-            Ok(ValidState { state: self })
-        } else {
-            Err(Reason::Range.into())
-        }
+        self.check()?;
+        Ok(ValidState { state: self })
     }
 }

@@ -41,11 +41,11 @@ impl Move {
 
 impl ValidState {
     // What the line of a known task does: what it reads is gathered, and the rule applied.
-    pub(crate) fn effect(self, task: usize) -> Effect
-        requires { task < self.state.n }
-        ensures { result ≡ defs.effect_of self.state task }
+    pub(crate) fn effect(&self, task: usize) -> Effect
+        requires { task < self.now.state.n }
+        ensures { result ≡ defs.effect_of self.now.state task }
     {
-        let state = self.state;
+        let state = &self.state;
         let own = state.tasks[task];
         let looked = own.looked as usize;
         let seen = state.tasks[looked];
@@ -61,11 +61,11 @@ impl ValidState {
         requires { task < self.state.n }
         ensures { result ≡ defs.step_of self.state task }
     {
-        let mut state = self.state;
         let effect = self.effect(task);
         let act = effect.act;
         let next = effect.task;
         let closed = self.closes(task, next.count);
+        let mut state = self.state;
         let moves = state.moves[task];
         let waits = state.waits[task];
         let outcome = Move::of(act, closed, moves, waits);
@@ -101,9 +101,9 @@ impl State {
     pub fn turn(self, task: usize) -> Turned
         ensures { result ≡ defs.turn_of self task }
     {
-        match self.valid() {
-            Ok(valid) if task < self.n as usize => valid.step(task),
-            Ok(_) => self.refused(Reason::Task.into()),
+        match self.check() {
+            Ok(()) if task < self.n as usize => ValidState { state: self }.step(task),
+            Ok(()) => self.refused(Reason::Task.into()),
             Err(refusal) => self.refused(refusal),
         }
     }

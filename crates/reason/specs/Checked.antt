@@ -29,6 +29,9 @@ pub checked_positive : {e : ℕ} (k : ℕ) → checked k ≡ Err e → 0 < e
 checked_positive {e = e} zero p = cc
 checked_positive {e = e} (suc k) p = let q : suc k ≡ e = cc in omega arith
 
+pub checked_refused : {e : ℕ} (k : ℕ) → checked k ≡ Err e → eqb k 0 ≡ false
+checked_refused k p = ne_eqb k 0 (λ z. let some = checked_positive k p in let same = checked_err k p in omega arith)
+
 -- by an answer that has a value, which was accepted, or was refused for the number that it has
 pub told_ok : {A : Type 0} {r : Result A ℕ} {a : A} (k : ℕ) → unit_of r ≡ checked k → r ≡ Ok a → k ≡ 0
 told_ok k e is = checked_ok k (sym e ∙ ap unit_of is)

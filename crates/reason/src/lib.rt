@@ -9,8 +9,12 @@ ghost use Rattle.reason.specs.Placed.{placed};
 use std::error::Error;
 use std::fmt;
 use std::marker::Model;
+use unnamed::Unnamed;
 
-// The reasons, in the order of their numbers, 1 to 15.
+pub mod unnamed;
+
+// The reasons, in the order of their numbers, 1 to 15; and what a refusal is for that has another number. No call of these libraries answers one, but a
+// caller may hand one in.
 #[derive(Clone, Copy, Debug, PartialEq, Eq, Hash)]
 pub enum Reason {
     Text,
@@ -28,6 +32,7 @@ pub enum Reason {
     TallyLimit,
     TraceLength,
     Works,
+    Unnamed(Unnamed),
 }
 
 impl fmt::Display for Reason {
@@ -48,35 +53,71 @@ impl fmt::Display for Reason {
             Reason::TallyLimit => "the tally is at its limit",
             Reason::TraceLength => "the trace is not made of whole turns",
             Reason::Works => "the table of work lengths is wrong",
+            Reason::Unnamed(_) => "no reason has this number",
         })
     }
 }
 
-// A refusal, for a reason.
+impl Reason {
+    // The number of the reason.
+    pub fn number(self) -> u8
+        ensures { result ≡ number_of self }
+    {
+        match self {
+            Reason::Text => 1,
+            Reason::Kind => 2,
+            Reason::Count => 3,
+            Reason::Modulus => 4,
+            Reason::TableLength => 5,
+            Reason::Parent => 6,
+            Reason::Range => 7,
+            Reason::ScheduleLength => 8,
+            Reason::Task => 9,
+            Reason::Room => 10,
+            Reason::CountLimit => 11,
+            Reason::Starts => 12,
+            Reason::TallyLimit => 13,
+            Reason::TraceLength => 14,
+            Reason::Works => 15,
+            Reason::Unnamed(other) => other.number(),
+        }
+    }
+}
+
+// A refusal, for the reason of a number. Kept as the number, which callers are told and may hand in.
 #[derive(Clone, Copy, Debug, PartialEq, Eq, Hash)]
 pub struct Refusal {
-    reason: Reason,
+    number: u8,
 }
 
 impl Model for Refusal {
-    ghost use Rattle.std.specs.Prelude.{ℕ};
+    ghost use Rattle.std.specs.Prelude.{ℕ, refl};
 
     ghost Value = { ℕ };
 
-    ghost use Rattle.reason.specs.Numbers.{number_of, reason_of, reason_back};
+    ghost view = { λ a. a.number };
 
-    ghost view = { λ a. number_of a.reason };
+    ghost inverse = { λ k. record { number = k } };
 
-    ghost inverse = { λ k. record { reason = reason_of k } };
-
-    ghost inverse_ok = { λ a h. reason_back a };
+    ghost inverse_ok = { λ a h. refl };
 }
 
 impl From<Reason> for Refusal {
     ghost from_gives = { λ reason refusal. refusal ≡ number_of reason };
 
     fn from(reason: Reason) -> Refusal {
-        Refusal { reason }
+        Refusal {
+            number: reason.number(),
+        }
+    }
+}
+
+// Of any number, since a caller may hand one in.
+impl From<u8> for Refusal {
+    ghost from_gives = { λ number refusal. refusal ≡ number };
+
+    fn from(number: u8) -> Refusal {
+        Refusal { number }
     }
 }
 
@@ -85,27 +126,44 @@ impl Refusal {
     pub fn reason(self) -> Reason
         ensures { number_of result ≡ self }
     {
-        self.reason
+        match self.number {
+            1 => Reason::Text,
+            2 => Reason::Kind,
+            3 => Reason::Count,
+            4 => Reason::Modulus,
+            5 => Reason::TableLength,
+            6 => Reason::Parent,
+            7 => Reason::Range,
+            8 => Reason::ScheduleLength,
+            9 => Reason::Task,
+            10 => Reason::Room,
+            11 => Reason::CountLimit,
+            12 => Reason::Starts,
+            13 => Reason::TallyLimit,
+            14 => Reason::TraceLength,
+            15 => Reason::Works,
+            number => Reason::Unnamed(Unnamed::of(number)),
+        }
     }
 
     // The reason's number.
     pub fn number(self) -> u8
         ensures { result ≡ self }
     {
-        self.reason as u8 + 1
+        self.number
     }
 
     // Whether it is for this reason.
     pub fn is_for(self, reason: Reason) -> bool
         ensures { result ≡ eqb self (number_of reason) }
     {
-        self.reason == reason
+        reason.number() == self.number
     }
 }
 
 impl fmt::Display for Refusal {
     fn fmt<W: fmt::Write>(&self, f: &mut fmt::Formatter<W>) -> fmt::Result {
-        write!(f, "{}", self.reason)
+        write!(f, "{}", self.reason())
     }
 }
 

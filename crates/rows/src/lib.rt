@@ -119,16 +119,16 @@ fn write_turns(begin: ValidState, tasks: &[u8], log: &[u8], rows: &mut [u32])
     requires tasks_in_bounds { 6 * length tasks.now ≤ length rows.old }
     ensures { rows.new ≡ defs.row_numbers begin.state tasks.now ++ drop (6 * length tasks.now) rows.old }
 {
-    let state = begin.state;
-    let n = state.n as usize;
-    let mut counts = state.counts();
+    let kind = begin.state.kind;
+    let n = begin.state.n as usize;
+    let mut counts = begin.state.all_counts();
     let mut least = counts::least_of(&counts[..n]);
     for (i, &turn) in tasks.iter().enumerate() {
         let task = turn as usize;
         let line = log[2 * i];
         let moved = log[2 * i + 1];
         let count = counts[task];
-        let next = count + rise(state.kind, line, moved);
+        let next = count + rise(kind, line, moved);
         counts[task] = next;
         let after = least.after(&counts[..n], count, next);
         let closed = after.count - least.count;

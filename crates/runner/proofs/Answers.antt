@@ -60,6 +60,21 @@ module _ (s : State) (schedule : List ℕ) (allowance room : ℕ) where
         accepts h =
             rw (eq-eqb (check_state s) 0 ok, le-leb (length schedule) max_turns few, known, le-leb (2 * min allowance (length schedule)) room h)
 
+-- a run that is not refused begins with a state in range
+pub in_range : (s : State) (schedule : List ℕ) (allowance room : ℕ) → run_reason s schedule allowance room ≡ 0 → Valid s
+in_range s schedule allowance room e = go (check_state s) refl
+  where
+    go : (k : ℕ) → check_state s ≡ k → Valid s
+    go zero is = is
+    go (suc k) is =
+        let refused : admission s schedule allowance room ≡ Err (placed (suc k) 0)
+        = refuses_7 s schedule allowance room (suc k) is (λ z. absurd (omega arith)) in
+        let on : admission s schedule allowance room ≡ Ok tt = rw e in cc
+
+-- a number above 0 is not 0
+pub positive_some : {k : ℕ} → 0 < k → k ≢ 0
+positive_some h = λ z. absurd (omega arith)
+
 -- every turn is a task where the first that is none stands at the end
 pub all_tasks_lem : (n place : ℕ) (schedule : List ℕ) → place ≡ unknown_at n schedule → length schedule ≤ place → all_tasks n schedule ≡ true
 all_tasks_lem n place schedule e h = eq-eqb (unknown_at n schedule) (length schedule) (omega (arith, unknown_le n schedule))

@@ -128,8 +128,8 @@ fn store_count(counts: &mut [u32], least: Least, task: usize, next: u32) -> Leas
 // moved and waited go on, a refusal ends the run. The state stays where it is: a turn reads two tasks, and stores what its effect has, whether
 // it moves or waits (what waits has the task that stood there). Which word is written is not asked, only whether one is: most lines write none.
 // Both tallies are stored too: a move adds 1 and 0 to them, a wait 0 and 1. The counts are kept besides, as `counts`, with the least of them: the
-// rounds closed are how far that has risen. The steps of `State::turn`, and the fields of `State::shared`, stand here again, since both take the
-// state by value: a loop that called `turn` took 5.8 to 11 times the baseline, where the bars are 2.0 and 2.5 (docs/DECISIONS.md). The log goes by
+// rounds closed are how far that has risen. The steps of `State::turn` stand here again, since it takes the
+// state by value: a loop that called it took 5.8 to 11 times the baseline, where the bars are 2.0 and 2.5 (docs/DECISIONS.md). So do the fields of `State::shared`, which is machine's own. The log goes by
 // places: what `chunks_exact_mut` promises tells nothing of the bytes that are written through it.
 fn turns(
     begin: ValidState,
@@ -208,18 +208,18 @@ pub fn refused(state: State, refusal: PlacedRefusal) -> Ran
     }
 }
 
-// The state as one in range, or why the whole run is refused, where the log has this room. The state is looked at here alone, before the first turn.
-// The test of unknown turns is that of `reader::check`; as a function it would need a definition of its own, for three lines.
+// Why the whole run is refused, if it is, where the log has this room. The state is looked at here alone, before the first turn; it is lent, so that the
+// run goes on with it where it stands. The test of unknown turns is that of `reader::check`; as a function it would need a definition of its own, for
+// three lines.
 fn admitted(
-    state: State,
+    state: &State,
     schedule: &[u8],
     allowance: usize,
     room: usize,
-) -> Result<ValidState, PlacedRefusal>
-    ensures told { unit_of result ≡ defs.admission state schedule.now allowance room }
-    ensures value { IfOk result (λ valid. valid.state ≡ state) }
+) -> Result<(), PlacedRefusal>
+    ensures { result ≡ defs.admission state.now schedule.now allowance room }
 {
-    let valid = state.valid()?;
+    state.check()?;
     if 65536 < schedule.len() {
         return Err(Reason::ScheduleLength.into());
     }
@@ -230,7 +230,7 @@ fn admitted(
     if room < 2 * allowance.min(schedule.len()) {
         return Err(Reason::Room.into());
     }
-    Ok(valid)
+    Ok(())
 }
 
 // Makes the first turns of a schedule, as many as the allowance, of a run that is not refused as a whole.
@@ -241,10 +241,9 @@ fn go(begin: ValidState, schedule: &[u8], allowance: usize, log: &mut [u8]) -> R
 {
     let count = allowance.min(schedule.len());
     let end = ended(allowance, schedule.len());
-    let state = begin.state;
-    let parents = state.parents;
-    let n = state.n as usize;
-    let mut counts = state.counts();
+    let parents = begin.state.parents;
+    let n = begin.state.n as usize;
+    let mut counts = begin.state.all_counts();
     turns(
         begin,
         &parents[..n],
@@ -261,8 +260,8 @@ pub fn run(state: State, schedule: &[u8], allowance: usize, log: &mut [u8]) -> R
     ensures value { result ≡ defs.run_of state schedule.now allowance log.old }
     ensures log_after { log.new ≡ defs.log_after state schedule.now allowance log.old }
 {
-    match admitted(state, schedule, allowance, log.len()) {
-        Ok(valid) => go(valid, schedule, allowance, log),
+    match admitted(&state, schedule, allowance, log.len()) {
+        Ok(()) => go(ValidState { state }, schedule, allowance, log),
         Err(refusal) => refused(state, refusal),
     }
 }

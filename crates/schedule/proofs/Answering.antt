@@ -30,6 +30,16 @@ told_refused n ts r = go (all_tasks n ts)
     go true e = cc
     go false e = (refl, cc)
 
+-- the two tests of a number of tasks
+pub count_below : (n : ℕ) → n < 1 → false ≡ is_count n
+count_below n h = rw (lt-leb 1 n h)
+
+pub count_above : (n : ℕ) → 1 ≤ n → 64 < n → false ≡ is_count n
+count_above n some h = rw (le-leb 1 n some, lt-leb n 64 h)
+
+pub count_within : (n : ℕ) → 1 ≤ n → n ≤ 64 → true ≡ is_count n
+count_within n some few = rw (le-leb 1 n some, le-leb n 64 few)
+
 module _ (n : ℕ) (ts pairs : List ℕ) where
   -- what a refused call leaves
   pub refused : (r : PlacedRefusal) → Err r ≡ passes_answer n ts (length pairs) → pairs ≡ pairs_after n ts pairs

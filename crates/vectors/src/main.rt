@@ -13,8 +13,8 @@
 //     10 KIND N R NP NS NW P.. S.. W..    as 1, with so many parents, starts and work lengths
 //     11 KIND N R NP NS NW P.. S.. W.. B..    a play-back of the bytes B, what it returns is kept    agrees, differs I, or refused K
 //
-// Any other line is answered `bad line` and changes nothing. Standard input is read in blocks, and gathered to lines. The numbers of a line
-// (text.rt) make a request (request.rt), which is answered (answer.rt, fields.rt). The answers are gathered in a buffer (print.rt).
+// Any other line is answered `bad line` and changes nothing. Standard input is read in blocks, whose bytes go one by one to the numbers of the line that is being read
+// (text.rt). Those of a whole line make a request (request.rt), which is answered (answer.rt, fields.rt). The answers are gathered in a buffer (print.rt).
 #![tactic(auto)]
 
 mod answer;
@@ -23,20 +23,18 @@ mod print;
 mod request;
 mod text;
 
-use arrayvec::ArrayVec;
 use fields::Kept;
 use print::{Output, Said, Word};
 use request::Request;
 use std::io::{Read, Stdin};
-use text::{LINE_ROOM, Numbers};
+use text::Numbers;
 
 // The most bytes of a block.
 const BLOCK: usize = 65536;
 
-// The line being read and its numbers, the kept state, and the answers so far.
+// The numbers of the line being read, the kept state, and the answers so far.
 #[derive(Drop)]
 struct Replay {
-    line: ArrayVec<u8, LINE_ROOM>,
     numbers: Numbers,
     kept: Kept,
     out: Output,
@@ -45,7 +43,7 @@ struct Replay {
 impl Replay {
     // None for a bad line, with nothing printed.
     fn answer(&mut self) -> Option<()> {
-        self.numbers.read(self.line.as_slice())?;
+        self.numbers.end()?;
         let request = Request::of(&self.numbers)?;
         answer::answer(&mut self.kept, request, &mut self.out)
     }
@@ -56,7 +54,7 @@ impl Replay {
             self.out.say(Said::Plain(Word::BadLine));
         }
         self.out.line_feed();
-        self.line.clear();
+        self.numbers.clear();
     }
 
     // Takes the bytes of a block, and answers each line that ends in it.
@@ -65,8 +63,7 @@ impl Replay {
             if byte == b'\n' {
                 self.end_line();
             } else {
-                // Past a line's room it is a bad line, whatever follows.
-                let _ = self.line.try_push(byte);
+                self.numbers.byte(byte);
             }
         }
     }
@@ -82,7 +79,7 @@ impl Replay {
             }
             self.read_block(&block[..length]);
         }
-        if !self.line.is_empty() {
+        if !self.numbers.is_empty() {
             self.end_line();
         }
         self.out.flush();
@@ -91,7 +88,6 @@ impl Replay {
 
 fn main(rt: HostRuntime) {
     let mut replay = Replay {
-        line: ArrayVec::new(),
         numbers: Numbers::new(),
         kept: Kept::new(),
         out: Output::new(rt.stdout()),

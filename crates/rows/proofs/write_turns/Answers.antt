@@ -7,18 +7,18 @@ use Rattle.rows.proofs.write_turns.Goals as goal
 pub slice_bounds-counts-end : goal.slice_bounds-counts-end
 slice_bounds-counts-end c =
     let s = c.args.begin.state in
-    lent_there s s.n (range s c.args.begin.valid).few c.counts-counts.result c.counts-counts.ensures
+    lent_there s s.n (range s c.args.begin.valid).few c.all_counts-counts.result c.all_counts-counts.ensures
 
 pub slice_bounds-least_of-end : goal.slice_bounds-least_of-end
 slice_bounds-least_of-end c =
     let s = c.args.begin.state in
-    sym (length-take-le s.n c.counts-counts.result (lent_there s s.n (range s c.args.begin.valid).few c.counts-counts.result c.counts-counts.ensures))
+    sym (length-take-le s.n c.all_counts-counts.result (lent_there s s.n (range s c.args.begin.valid).few c.all_counts-counts.result c.all_counts-counts.ensures))
 
 pub loop-i-init : goal.loop-i-init
 loop-i-init c =
     let a = c.args in
     let r = c.requires in
-    at.going_none a.begin.state a.tasks.now a.log.now a.rows.now _ _ a.begin.valid r.tasks_value r.log_value c.counts-counts.ensures c.least_of-least.ensures
+    at.going_none a.begin.state a.tasks.now a.log.now a.rows.now _ _ a.begin.valid r.tasks_value r.log_value c.all_counts-counts.ensures c.least_of-least.ensures
 
 pub bounds-log-i : goal.bounds-log-i
 bounds-log-i c = omega (arith, at.log_there c.loop-i.invariant c.loop-i-test.true)

@@ -16,12 +16,12 @@ slice_bounds-turns-end c = sym (length-take-le _ _ (omega (arith, (range c.args.
 pub slice_bounds-counts-end : goal.slice_bounds-counts-end
 slice_bounds-counts-end c =
     let s = c.args.begin.state in
-    lent_there s s.n (range s c.args.begin.valid).few c.counts-counts.result c.counts-counts.ensures
+    lent_there s s.n (range s c.args.begin.valid).few c.all_counts-counts.result c.all_counts-counts.ensures
 
 pub slice_bounds-turns-end-3 : goal.slice_bounds-turns-end-3
 slice_bounds-turns-end-3 c =
     let s = c.args.begin.state in
-    sym (length-take-le _ _ (lent_there s s.n (range s c.args.begin.valid).few c.counts-counts.result c.counts-counts.ensures))
+    sym (length-take-le _ _ (lent_there s s.n (range s c.args.begin.valid).few c.all_counts-counts.result c.all_counts-counts.ensures))
 
 pub turns-requires-clause-schedule_value : goal.turns-requires-clause-schedule_value
 turns-requires-clause-schedule_value c =

@@ -7,7 +7,7 @@ use Rattle.machine.proofs.State.in_range.Goals as goal
 pub returns : goal.returns
 unfolding state_ok
 returns c =
-    let s = c.args.self in
+    let s = c.args.self.now in
     rw (
       c.shared_ok.ensures,
       c.shared.ensures,

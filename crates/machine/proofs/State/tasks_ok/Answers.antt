@@ -19,4 +19,4 @@ loop-q-init c = refl
 
 pub loop-q-preserved : goal.loop-q-preserved
 loop-q-preserved c =
-    one_more c.args.self c.loop-q.q _ _ _ _ c.loop-q.invariant c.place_ok.ensures c.tally_ok.ensures c.tally_ok-in-loop-q.ensures
+    one_more c.args.self.now c.loop-q.q _ _ _ _ c.loop-q.invariant c.place_ok.ensures c.tally_ok.ensures c.tally_ok-in-loop-q.ensures

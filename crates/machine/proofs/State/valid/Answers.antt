@@ -1,16 +1,16 @@
 -- A state in range, and one of which a field is out of range.
-use Rattle.std.proofs.Common.{refl}
-use Rattle.machine.specs.Range.{check_state}
+use Rattle.std.proofs.Common.{refl, sym, ◌∙◌}
+use Rattle.std.proofs.lemmas.Result.{err_from_is_err_and}
+use Rattle.reason.specs.Checked.{checked_ok}
 use Rattle.machine.proofs.State.valid.Goals as goal
 
 pub invariant_of-result : goal.invariant_of-result
-unfolding check_state
-invariant_of-result c = record { valid = rw (← c.in_range.ensures, c.if-in_range.true) }
+invariant_of-result c = record { valid = checked_ok _ (sym c.check.ensures ∙ c.in_ok-check.was) }
 
-pub returns-then-in_range : goal.returns-then-in_range
-unfolding check_state
-returns-then-in_range c = record { told = rw (← c.in_range.ensures, c.if-in_range.true); value = refl }
+pub returns-in_err-check : goal.returns-in_err-check
+returns-in_err-check c =
+    let p = err_from_is_err_and c.from_residual.result c.from_residual.ensures.1 in
+    record { told = rw (p.1, p.2) (sym (sym c.check.ensures ∙ c.in_err-check.was)); value = rw p.1 tt }
 
-pub returns-else-in_range : goal.returns-else-in_range
-unfolding check_state
-returns-else-in_range c = record { told = rw (c.into.ensures, ← c.in_range.ensures, c.if-in_range.false); value = tt }
+pub returns : goal.returns
+returns c = record { told = sym (sym c.check.ensures ∙ c.in_ok-check.was); value = refl }

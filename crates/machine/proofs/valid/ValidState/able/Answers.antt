@@ -42,22 +42,22 @@ here s q e o moved b v h is eo em eb = asked s q b v h (rw (← eb, em, eo, is))
 
 -- the task that is asked has its tallies
 pub bounds-state-q : goal.bounds-state-q
-bounds-state-q c = omega (arith, (range c.args.self.state c.args.self.valid).few)
+bounds-state-q c = omega (arith, (range c.args.self.now.state c.args.self.now.valid).few)
 
 pub bounds-state-q-in-loop-q : goal.bounds-state-q-in-loop-q
-bounds-state-q-in-loop-q c = omega (arith, (range c.args.self.state c.args.self.valid).few)
+bounds-state-q-in-loop-q c = omega (arith, (range c.args.self.now.state c.args.self.now.valid).few)
 
 pub returns-then-is_moved : goal.returns-then-is_moved
 returns-then-is_moved c =
     sym
     (c.loop-q.invariant
-    ∙ here c.args.self.state c.loop-q.q _ _ _ true c.args.self.valid (omega arith) c.effect-effect.ensures c.of.ensures c.is_moved.ensures c.if-is_moved.true)
+    ∙ here c.args.self.now.state c.loop-q.q _ _ _ true c.args.self.now.valid (omega arith) c.effect-effect.ensures c.of.ensures c.is_moved.ensures c.if-is_moved.true)
 
 pub loop-q-preserved : goal.loop-q-preserved
 loop-q-preserved c =
     c.loop-q.invariant
-    ∙ here c.args.self.state c.loop-q.q _ _ _ false c.args.self.valid (omega arith) c.effect-effect.ensures c.of.ensures c.is_moved.ensures c.if-is_moved.false
+    ∙ here c.args.self.now.state c.loop-q.q _ _ _ false c.args.self.now.valid (omega arith) c.effect-effect.ensures c.of.ensures c.is_moved.ensures c.if-is_moved.false
 
 pub returns : goal.returns
 unfolding ready_from
-returns c = let none : c.args.self.state.n - c.loop-q.q ≡ 0 = omega arith in sym (c.loop-q.invariant ∙ rw none)
+returns c = let none : c.args.self.now.state.n - c.loop-q.q ≡ 0 = omega arith in sym (c.loop-q.invariant ∙ rw none)
