@@ -7,8 +7,8 @@ use crate::State;
 use crate::valid::ValidState;
 
 impl State {
-    // The counts of all 64 tasks, of a state that is lent. A loop and no `map`, which takes the tasks by value and copies them: a turn that closes a round
-    // goes over the counts.
+    // The counts of all 64 tasks, of a state that is lent. A loop and no `map`, which takes the tasks by value and copies them: a turn that raises a
+    // count goes over them.
     pub fn all_counts(&self) -> [u32; 64]
         ensures { result ≡ defs.counts_of self.now }
     {
