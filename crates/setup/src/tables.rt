@@ -8,7 +8,7 @@ use kind::Kind;
 use reason::{Reason, Refusal};
 
 // Whether every entry of a table is `low` or more, and below the bound. A loop over all and no `all`, which ends at the first entry that isn't: so the compiler makes
-// several tests at once, and a range check and `bound::limit` take a quarter less time.
+// several tests at once, and `bound::limit` takes a fifth less time.
 pub fn all_within(low: usize, bound: usize, table: &[u8]) -> bool
     ensures { result ≡ defs.all_within low bound table.now }
 {
